@@ -1,0 +1,1 @@
+// The station alarm register as definitions: there is no code here. See specs/.
