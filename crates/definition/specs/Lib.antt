@@ -6,3 +6,6 @@ pub mod Value
 pub mod Reader
 pub mod Parse
 pub mod Key
+pub mod Chain
+pub mod Alarm
+pub mod Station
