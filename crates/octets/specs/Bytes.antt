@@ -71,6 +71,9 @@ value s = valueFrom 0 s
 abbrev pub numberAt : ℕ → Bytes → ℕ → ℕ
 numberAt n b k = value (take n (drop k b))
 
+abbrev pub at32 : Bytes → ℕ → ℕ
+at32 b k = numberAt 4 b k
+
 -- ---- replaced in part
 
 -- b with v in the place of its bytes from k on

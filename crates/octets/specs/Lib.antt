@@ -4,3 +4,8 @@ pub mod SameLaws
 pub mod OrLaws
 pub mod RangeLaws
 pub mod PartLaws
+pub mod NumberLaws
+pub mod SpliceLaws
+pub mod Pack
+pub mod PackLaws
+pub mod BlankLaws

@@ -1,10 +1,10 @@
 -- Bytes joined by or: what is below a power of two, and what is zero.
 use mathlib.Core.Path.{_≡_}
-use mathlib.Core.Bool.{Bool, _&&_}
-use Prim.Native.Nat.{ℕ, _≤_, _<_, _^_}
+use mathlib.Core.Bool.{_&&_}
+use Prim.Native.Nat.{ℕ, _≤_, _^_}
 use native.Mathlib.Omega.{arith}
 use borrow.Author.Tests.{lt-ltb, ltb-true, eq-eqb, eqb-true}
-use lib.Dec.{T, ltb, eqb}
+use lib.Dec.{ltb, eqb}
 use lib.Bits.{bitOr, or-lt, or-zero-l, or-add-and, and-le-l, and-le-r}
 use Rattle.octets.specs.BoolLaws.{same-tests, holds, true-holds, both, both-left, both-right}
 

@@ -1,9 +1,9 @@
-use mathlib.Core.Path.{_≡_, _∙_, sym, refl}
+use mathlib.Core.Path.{_≡_, _∙_, sym}
 use Prim.Native.Nat.{_≤_, _-_}
 use native.Mathlib.Omega.{arith}
 use lib.ListN.{length, drop}
-use Rattle.octets.specs.Bytes.{same, begins}
-use Rattle.octets.specs.SameLaws.{same-lengths, same-step, same-not, same-end, begins-step, begins-not, begins-end, begins-short}
+use Rattle.octets.specs.Bytes.{same}
+use Rattle.octets.specs.SameLaws.{same-lengths, same-step, same-not, same-end}
 use borrow.Author.Needs.{needs}
 use Rattle.octets.proofs.equal.Statement.{statement}
 use Rattle.octets.proofs.equal.Tie as tie
