@@ -6,6 +6,7 @@ pub mod Value
 pub mod Reader
 pub mod Parse
 pub mod Key
+pub mod Table
 pub mod Chain
 pub mod Alarm
 pub mod Station
