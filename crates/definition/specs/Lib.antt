@@ -10,3 +10,5 @@ pub mod Table
 pub mod Chain
 pub mod Alarm
 pub mod Station
+pub mod ChainLaws
+pub mod Fields
