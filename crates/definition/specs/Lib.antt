@@ -6,6 +6,13 @@ pub mod Value
 pub mod Reader
 pub mod Parse
 pub mod Key
+pub mod Book
+pub mod BookChainLaws
+pub mod BookSplitLaws
+pub mod BookLegalLaws
+pub mod BookHeaderLaws
+pub mod BookWithLaws
+pub mod BookRelinkLaws
 pub mod Table
 pub mod Chain
 pub mod Alarm
