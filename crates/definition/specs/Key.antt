@@ -6,7 +6,7 @@ use mathlib.Core.Option.{Option, none, some}
 use lib.Dec.{ltb}
 use lib.ListN.{length, take}
 use Rattle.octets.specs.Bytes.{Bytes, ascii, be32}
-use Rattle.sha256.specs.Sha256.{sha256Of}
+use Rattle.fips180.specs.Sha256.{sha256Of}
 use Rattle.definition.specs.Value.{ObjectValue, nfInstance, interface, peer, sessionStore, slice, tenant, certificate, dataPlaneQueue, PlacesValue, KeyValue}
 
 -- "strings and options encoded as in a call": a u32 length and its bytes; byte 0, or byte 1 and the string

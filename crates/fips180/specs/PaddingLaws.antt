@@ -1,0 +1,72 @@
+-- Laws of the padded message, byte by byte.
+use mathlib.Core.Path.{_≡_, refl, sym, ap, _∙_}
+use mathlib.Core.List.{[], _∷_, _++_}
+use Prim.Native.Nat.{ℕ, suc, _+_, _-_, _*_, _/_, _%_, _^_, _≤_, _<_}
+use native.Mathlib.Nat.{div-div-eq-div-mul}
+use native.Mathlib.Omega.{arith}
+use lib.ListN.{length, getD, length-append, length-replicate, getD-replicate, List·getD-append, List·getD-eq-default}
+use lib.Seq.{getD-append-seam, getD-append-add}
+use Rattle.octets.specs.Bytes.{Bytes, digits, be64, zeros}
+use Rattle.fips180.specs.Sha256.{zerosOf, padded}
+
+-- the place where the length stands, and the end
+abbrev pub lengthAt : Bytes → ℕ
+lengthAt m = (length m + 72) / 64 * 64 - 8
+
+length-zeros : (n : ℕ) → length (zeros n) ≡ n
+unfolding zeros
+length-zeros n = length-replicate n 0
+
+length-be64 : (x : ℕ) → length (be64 x) ≡ 8
+unfolding digits
+length-be64 x = refl
+
+pub length-padded : (m : Bytes) → length (padded m) ≡ (length m + 72) / 64 * 64
+unfolding padded zerosOf
+length-padded m = simp (length-append, length-zeros, length-be64) (omega arith)
+
+pub blocks-count : (m : Bytes) → length (padded m) / 64 ≡ (length m + 72) / 64
+blocks-count m = rw length-padded (omega arith)
+
+pub padded-message : (m : Bytes) (i : ℕ) → i < length m → getD (padded m) i 0 ≡ getD m i 0
+unfolding padded
+padded-message m i h = List·getD-append m _ 0 i h
+
+pub padded-mark : (m : Bytes) → getD (padded m) (length m) 0 ≡ 0x80
+unfolding padded
+padded-mark m = getD-append-seam m _ _ 0
+
+pub padded-past : (m : Bytes) (i : ℕ) → (length m + 72) / 64 * 64 ≤ i → getD (padded m) i 0 ≡ 0
+padded-past m i h = List·getD-eq-default (padded m) 0 (rw length-padded h)
+
+-- past the mark: the zeros, then the length
+padded-rest : (m : Bytes) (k : ℕ) → getD (padded m) (length m + suc k) 0 ≡ getD (zeros (zerosOf (length m)) ++ be64 (8 * length m)) k 0
+unfolding padded
+padded-rest m k = getD-append-add m _ (suc k) 0
+
+zeros-first : (z : ℕ) (b : Bytes) (k : ℕ) → k < z → getD (zeros z ++ b) k 0 ≡ 0
+unfolding zeros
+zeros-first z b k h = List·getD-append (zeros z) b 0 k (rw length-zeros h) ∙ getD-replicate z k 0 0 h
+
+zeros-then : (z : ℕ) (b : Bytes) (j : ℕ) → getD (zeros z ++ b) (z + j) 0 ≡ getD b j 0
+zeros-then z b j = ap (λ (n : ℕ). getD (zeros z ++ b) (n + j) 0) (sym (length-zeros z)) ∙ getD-append-add (zeros z) b j 0
+
+-- byte k of what follows the mark, at its place i in the whole
+padded-at : (m : Bytes) (i k : ℕ) → i ≡ length m + suc k → getD (padded m) i 0 ≡ getD (zeros (zerosOf (length m)) ++ be64 (8 * length m)) k 0
+padded-at m i k e = rw e (padded-rest m k)
+
+pub padded-zero : (m : Bytes) (i : ℕ) → length m < i → i < lengthAt m → getD (padded m) i 0 ≡ 0
+unfolding zerosOf
+padded-zero m i h l = padded-at m i (i - length m - 1) (omega arith) ∙ zeros-first (zerosOf (length m)) (be64 (8 * length m)) (i - length m - 1) (omega arith)
+
+pub padded-length : (m : Bytes) (j : ℕ) → getD (padded m) (lengthAt m + j) 0 ≡ getD (be64 (8 * length m)) j 0
+unfolding zerosOf
+padded-length m j = padded-at m (lengthAt m + j) (zerosOf (length m) + j) (omega arith) ∙ zeros-then (zerosOf (length m)) (be64 (8 * length m)) j
+
+-- the length in bits, from the length n in bytes
+pub length-bits : (n : ℕ) → n / 2 ^ 53 % 256 ∷ n / 2 ^ 45 % 256 ∷ n / 2 ^ 37 % 256 ∷ n / 2 ^ 29 % 256 ∷ n / 2 ^ 21 % 256 ∷ n / 2 ^ 13 % 256 ∷ n / 2 ^ 5 % 256 ∷ n % 32 * 8 ∷ [] ≡ be64 (8 * n)
+unfolding digits
+length-bits n =
+    let e : n % 32 * 8 ≡ 8 * n % 256 = omega arith in
+    let q : 8 * n / 256 ≡ n / 32 = omega arith in
+    simp (e, q, div-div-eq-div-mul)
