@@ -1,29 +1,22 @@
 -- Laws of the padded message, byte by byte.
-use mathlib.Core.Path.{_≡_, refl, sym, ap, _∙_}
+use mathlib.Core.Path.{_≡_, sym, ap, _∙_}
 use mathlib.Core.List.{[], _∷_, _++_}
 use Prim.Native.Nat.{ℕ, suc, _+_, _-_, _*_, _/_, _%_, _^_, _≤_, _<_}
 use native.Mathlib.Nat.{div-div-eq-div-mul}
 use native.Mathlib.Omega.{arith}
-use lib.ListN.{length, getD, length-append, length-replicate, getD-replicate, List·getD-append, List·getD-eq-default}
-use lib.Seq.{getD-append-seam, getD-append-add}
-use Rattle.octets.specs.Bytes.{Bytes, digits, be64, zeros}
+use lib.ListN.{length, getD, drop, length-append, List·getD-append, List·getD-eq-default}
+use lib.Seq.{drop-cons, getD-append-seam, getD-append-add}
+use Rattle.octets.specs.Bytes.{Bytes, digits, be64, zeros, valueFrom, at32}
+use Rattle.octets.specs.NumberLaws.{length-zeros, zeros-at, length-digits}
 use Rattle.fips180.specs.Sha256.{zerosOf, padded}
 
 -- the place where the length stands, and the end
 abbrev pub lengthAt : Bytes → ℕ
 lengthAt m = (length m + 72) / 64 * 64 - 8
 
-length-zeros : (n : ℕ) → length (zeros n) ≡ n
-unfolding zeros
-length-zeros n = length-replicate n 0
-
-length-be64 : (x : ℕ) → length (be64 x) ≡ 8
-unfolding digits
-length-be64 x = refl
-
 pub length-padded : (m : Bytes) → length (padded m) ≡ (length m + 72) / 64 * 64
 unfolding padded zerosOf
-length-padded m = simp (length-append, length-zeros, length-be64) (omega arith)
+length-padded m = simp (length-append, length-zeros, length-digits) (omega arith)
 
 pub blocks-count : (m : Bytes) → length (padded m) / 64 ≡ (length m + 72) / 64
 blocks-count m = rw length-padded (omega arith)
@@ -45,8 +38,7 @@ unfolding padded
 padded-rest m k = getD-append-add m _ (suc k) 0
 
 zeros-first : (z : ℕ) (b : Bytes) (k : ℕ) → k < z → getD (zeros z ++ b) k 0 ≡ 0
-unfolding zeros
-zeros-first z b k h = List·getD-append (zeros z) b 0 k (rw length-zeros h) ∙ getD-replicate z k 0 0 h
+zeros-first z b k h = List·getD-append (zeros z) b 0 k (rw length-zeros h) ∙ zeros-at z k h
 
 zeros-then : (z : ℕ) (b : Bytes) (j : ℕ) → getD (zeros z ++ b) (z + j) 0 ≡ getD b j 0
 zeros-then z b j = ap (λ (n : ℕ). getD (zeros z ++ b) (n + j) 0) (sym (length-zeros z)) ∙ getD-append-add (zeros z) b j 0
@@ -70,3 +62,14 @@ length-bits n =
     let e : n % 32 * 8 ≡ 8 * n % 256 = omega arith in
     let q : 8 * n / 256 ≡ n / 32 = omega arith in
     simp (e, q, div-div-eq-div-mul)
+
+-- a number of four bytes, from its bytes
+next : (p : Bytes) (i j : ℕ) → suc i ≡ j → i < length p → drop i p ≡ getD p i 0 ∷ drop j p
+next p i j e h = rw (← e) (drop-cons p i 0 h)
+
+pub at32-bytes : (p : Bytes) (k : ℕ) → k + 4 ≤ length p
+    → getD p k 0 * 2 ^ 24 + getD p (k + 1) 0 * 2 ^ 16 + getD p (k + 2) 0 * 2 ^ 8 + getD p (k + 3) 0 ≡ at32 p k
+unfolding valueFrom
+at32-bytes p k h =
+    rw (next p k (k + 1) (omega arith) (omega arith), next p (k + 1) (k + 2) (omega arith) (omega arith), next p (k + 2) (k + 3) (omega arith) (omega arith), next p (k + 3) (k + 4) (omega arith) (omega arith))
+    (omega arith)

@@ -6,15 +6,15 @@ use native.Mathlib.Numerals.{add-one}
 use native.Mathlib.Omega.{arith}
 use lib.ListN.{length, getD, take, set}
 use lib.Seq.{take-suc-set, getD-take}
-use Rattle.octets.specs.Bytes.{Bytes}
-use Rattle.fips180.specs.Sha256.{Hash, constants, wordOf, wordsOf, nextWord, scheduleOf, roundOf, roundsOf, blockOf, blocksOf}
+use Rattle.octets.specs.Bytes.{Bytes, at32}
+use Rattle.fips180.specs.Sha256.{Hash, constants, wordsOf, nextWord, scheduleOf, roundOf, roundsOf, blockOf, blocksOf}
 
 -- one element more at the front of a list
 take-more : (w : List ℕ) (i x : ℕ) {l : List ℕ} → i < length w → take i w ≡ l → take (i + 1) (set w i x) ≡ l ++ (x ∷ [])
 take-more w i x h q = rw (add-one, take-suc-set w i x h) (ap (λ (l : List ℕ). l ++ (x ∷ [])) q)
 
 -- one word more of a block
-pub words-more : (p : Bytes) (at : ℕ) (w : List ℕ) (i : ℕ) {x : ℕ} → i < length w → x ≡ wordOf p (at + 4 * i) → take i w ≡ wordsOf p at i
+pub words-more : (p : Bytes) (at : ℕ) (w : List ℕ) (i : ℕ) {x : ℕ} → i < length w → x ≡ at32 p (at + 4 * i) → take i w ≡ wordsOf p at i
     → take (i + 1) (set w i x) ≡ wordsOf p at (i + 1)
 unfolding wordsOf
 words-more p at w i {x} h e q =
