@@ -4,6 +4,7 @@ A check takes the repository's root and gives the faults it found, one line each
 nothing to check yet. The last line printed is 'N passed, M failed'.
 """
 import pathlib
+import subprocess
 import sys
 
 HERE = pathlib.Path(__file__).resolve().parent.parent
@@ -16,7 +17,7 @@ class Skip(Exception):
 def faults_of(check, root):
     try:
         return list(check(root))
-    except (OSError, ValueError, KeyError, TypeError, IndexError) as error:
+    except (OSError, ValueError, LookupError, TypeError, AttributeError, subprocess.SubprocessError) as error:
         return [f"{type(error).__name__}: {error}"]
 
 

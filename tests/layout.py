@@ -231,9 +231,7 @@ def model(root):
 
 def limits(root):
     """The definition's limits are document 01's."""
-    path = "crates/definition/specs/Limits.antt"
-    found = {name: int(value) for name, value in re.findall(r"^(\w+) = (\d+)$", read(root, path), re.M)}
-    yield from held_to(path, found, {
+    yield from held_to("crates/definition/specs/Limits.antt", limits_of(root), {
         "recordWidth": WIDTH, "shortLimit": SHORT, "causeLimit": CAUSE, "regionLimit": REGION,
         "textLimit": TEXT, "detailsLimit": DETAILS})
 
@@ -244,44 +242,83 @@ def later(root, path):
     return read(root, path)
 
 
-def numbers(text, name, path):
-    """The numbers of the list that a definition is."""
-    found = re.search(rf"^{name} =\s*([^\[]*)\[\]", text, re.M)
+def limits_of(root):
+    rows = re.findall(r"^(\w+) = (\d+)$", read(root, "crates/definition/specs/Limits.antt"), re.M)
+    return {name: int(value) for name, value in rows}
+
+
+def slot_width(expression, text, limit):
+    """How many bytes a slot of the definition takes, as `option (string shortLimit utf8)`; text holds the named ones."""
+    expression = expression.strip()
+    if expression.startswith("(") and expression.endswith(")"):
+        return slot_width(expression[1:-1], text, limit)
+    head, _, rest = expression.partition(" ")
+    if head in ("raw", "number", "spare"):
+        return int(rest)
+    if head == "upTo":
+        return 1
+    if head == "string":
+        return LENGTH + limit[rest.split()[0]]
+    if head == "option":
+        return 1 + slot_width(rest, text, limit)
+    found = re.search(rf"^{re.escape(expression)} =\s+record \{{\s*width = (\d+);", text, re.M)
+    if found:
+        return int(found.group(1))
+    found = re.search(rf"^{re.escape(expression)} = (.+)$", text, re.M)
     if not found:
-        raise ValueError(f"{path}: no list {name}")
-    items = [item.strip() for item in found.group(1).split("∷")]
-    return [int(item) for item in items if item]
+        raise ValueError(f"no slot {expression}")
+    return slot_width(found.group(1), text, limit)
 
 
-def slot_widths(root, part):
-    """The widths of a payload's slots, one for each field, and of what is left."""
-    fields = layout(root)[part]
-    spans = sorted(extent(field_slots(name, field)) for name, field in fields.items())
-    return [end - start for start, end in spans] + [WIDTH - spans[-1][1]]
+def definition_slots(root, part, text):
+    """(field, offset, width) of the definition's list of slots, field names as in layout.json."""
+    block = re.search(rf"^{part}Fields\b[^=\n]*=\n(.*?)∷ \[\]", text, re.M | re.S)
+    if not block:
+        raise ValueError(f"no list {part}Fields")
+    slots, at, limit = [], LINK, limits_of(root)
+    for expression, field in re.findall(r"^\s*(?:∷ )?(.+?) holds \(λ \w+\. (.+)\)$", block.group(1), re.M):
+        name = re.sub(r"(?<=[a-z])At\b", "_at", field.split(".")[-1].strip())
+        width = slot_width(expression, text, limit)
+        slots.append(("spare" if name == "tt" else name, at, width))
+        at += width
+    return slots
 
 
-def widths(root):
-    """The definition's lists of widths are the layout's."""
+def slots(root):
+    """The definition's payloads are the layout's fields, in its order and widths."""
     path = "crates/definition/specs/Record.antt"
     text = later(root, path)
     for part in ("alarm", "event"):
-        found, wanted = numbers(text, f"{part}Widths", path), slot_widths(root, part)
-        if found != wanted:
-            yield f"{path}: {part}Widths is {found}, the layout has {wanted}"
+        fields = {name: extent(field_slots(name, field)) for name, field in layout(root)[part].items()}
+        wanted = sorted(((name, start, end - start) for name, (start, end) in fields.items()), key=lambda slot: slot[1])
+        last = max(end for _, end in fields.values())
+        wanted.append(("spare", last, WIDTH - last))
+        found = definition_slots(root, part, text)
+        for slot in sorted(set(found) ^ set(wanted), key=lambda slot: slot[1]):
+            yield f"{path}: {part}: {slot} is {'in the definition' if slot in found else 'in the layout'} alone"
 
 
 def header(root):
-    """The definition reads the header's numbers at the layout's offsets, and its rest is zeros."""
+    """The definition writes and reads the header's numbers at the layout's offsets; its rest is zeros."""
     path = "crates/definition/specs/Book.antt"
     text = later(root, path)
-    reads = re.findall(r"\b(?:at(32|64)|numberAt ([48])) b (\d+)\b", text)
-    found = {int(at): int(bits) // 8 if bits else int(width) for bits, width, at in reads}
-    wanted = {offset: width for _, offset, width in json_slots(root, "header")}
-    if found != wanted:
-        yield f"{path}: reads {sorted(found.items())}, the layout has {sorted(wanted.items())}"
+    fields = layout(root)["header"]
+    found = {}
+    for name, width, at in re.findall(r"^\s*(\w+) = (?:at32|numberAt (\d)) \w+ (\d+);$", text, re.M):
+        found[name.replace("limit", "")] = [int(at), int(width or 4)]
+    for name, length, head in re.findall(r"^\s*(\w+) = walk \w+ \(at32 \w+ (\d+)\) \(at32 \w+ (\d+)\);$", text, re.M):
+        found[f"{name}_length"], found[f"{name}_head"] = [int(length), 4], [int(head), 4]
+    yield from held_to(path, found, fields)
+    words = re.search(r"^words b =\n(.*?)∷ \[\]", text, re.M | re.S)
+    names = [re.sub(r"limit|[ .()]", "", item.strip().removeprefix("b ")) for item in words.group(1).split("∷")] if words else []
+    names = [re.sub(r"^(headOf|length)b(\w+)", lambda m: f"{m.group(2)}_{m.group(1).removesuffix('Of')}", name) for name in names]
+    wanted = [name for name, (at, width) in sorted(fields.items(), key=lambda field: field[1]) if width == 4]
+    if names != wanted:
+        yield f"{path}: words are {names}, the layout has {wanted}"
     rest = WIDTH - extent(json_slots(root, "header"))[1]
-    if f"zeros {rest}" not in text:
+    if not re.search(rf"^header b = .*\bzeros {rest}\)*$", text, re.M):
         yield f"{path}: no `zeros {rest}` behind the header's numbers"
+    yield from held_to(path, dict(re.findall(r"^(payloadWidth) = (\d+)$", text, re.M)), {"payloadWidth": str(WIDTH - LINK)})
 
 
 CHECKS = {
@@ -292,7 +329,7 @@ CHECKS = {
     "stretches of sameness and texts": stretches,
     "constants of the record type": model,
     "limits of the definition": limits,
-    "widths of the definition's records": widths,
+    "slots of the definition's records": slots,
     "header of the definition": header,
 }
 

@@ -1,0 +1,150 @@
+#!/usr/bin/env python3
+"""Damages a copy of the repository and sees that each check of layout.py and repository.py notices."""
+import pathlib
+import re
+import shutil
+import sys
+import tempfile
+
+import layout
+import repository
+from checklist import HERE, Skip, faults_of, run
+
+RECORD, BOOK = "crates/definition/specs/Record.antt", "crates/definition/specs/Book.antt"
+LIMITS, MODEL = "crates/definition/specs/Limits.antt", "crates/model/src/lib.rt"
+CODE, SPECS, LAWS = "crates/octets/src/lib.rt", "crates/octets/specs/Bytes.antt", "crates/octets/specs/BoolLaws.antt"
+VECTORS = "crates/sha256_vectors/stdout"
+JSON, PAGE = "docs/layout.json", "docs/LAYOUT.md"
+
+# For each check: what is damaged, in which file, the pattern, and what takes its place.
+DAMAGES = {
+    (layout, "layout.json has its form"): [
+        ("a header field renamed", JSON, r'"free_length"', '"free_count"'),
+        ("a key of a string renamed", JSON, r'"at": 49', '"from": 49'),
+        ("a length of one byte", JSON, r"\[113, 2\]", "[113, 1]"),
+    ],
+    (layout, "LAYOUT.md and layout.json agree"): [
+        ("an offset in layout.json", JSON, r'"queue": 411', '"queue": 410'),
+        ("a width on the page", PAGE, r"\| successes \| 44 \| 8 \|", "| successes | 44 | 4 |"),
+        ("a row of the page left out", PAGE, r"\| principal \| 246 .*\n", ""),
+    ],
+    (layout, "slots fill 1,536 bytes"): [
+        ("the spare too short", PAGE, r"\| spare \| 1464 \| 72 \|", "| spare | 1464 | 71 |"),
+        ("a gap in the reserved room", PAGE, r"\| reserved: end \| 1456 .*\n", ""),
+        ("two slots overlap", JSON, r'"reason": \{"len": \[377', '"reason": {"len": [376'),
+        ("a slot on the next index", JSON, r'"action": 4', '"action": 3'),
+    ],
+    (layout, "strings of each kind"): [
+        ("a kind with a string too many", JSON, r'"5": \[0\]', '"5": [0, 1]'),
+        ("no optional shard", JSON, r'"present_kinds": \[4\]', '"present_kinds": []'),
+    ],
+    (layout, "stretches of sameness and texts"): [
+        ("a stretch too long", PAGE, r"\| 47 \| 678 \|", "| 47 | 680 |"),
+        ("a field left out", PAGE, r"\| severity, state \|", "| severity |"),
+    ],
+    (layout, "constants of the record type"): [
+        ("a limit", MODEL, r"CAUSE: usize = 96", "CAUSE: usize = 64"),
+        ("a constant left out", MODEL, r"pub const WIDTH.*\n", ""),
+    ],
+    (layout, "limits of the definition"): [
+        ("a limit", LIMITS, r"textLimit = 256", "textLimit = 255"),
+    ],
+    (layout, "slots of the definition's records"): [
+        ("two alarm slots exchanged", RECORD, r"(∷ short holds .* \.type\)\n)(.*\n)", r"\2\1"),
+        ("the room of a string", RECORD, r"string causeLimit", "string shortLimit"),
+        ("an event's spare", RECORD, r"spare 767 holds", "spare 766 holds"),
+    ],
+    (layout, "header of the definition"): [
+        ("an offset that is read", BOOK, r"\(at32 s 28\)", "(at32 s 36)"),
+        ("two words exchanged", BOOK, r"headOf \(b \.audit\) ∷ length \(b \.audit\)", "length (b .audit) ∷ headOf (b .audit)"),
+        ("the zeros behind", BOOK, r"zeros 1476", "zeros 1480"),
+    ],
+    (repository, "crates are listed"): [
+        ("a crate left out", "crates.txt", r"^octets:.*\n", ""),
+        ("a crate that is not there", "crates.txt", r"\Z", "nowhere:\n"),
+    ],
+    (repository, "public functions have an ensures"): [
+        ("a function with none", CODE, r"\Z", "pub fn extra(a: u8) -> u8 {\n    a\n}\n"),
+        ("an ensures taken away", CODE, r"(pub fn equal[^{]*)ensures \{[^}]*\}", r"\1"),
+    ],
+    (repository, "entry points have no requires"): [
+        ("an entry point with one", CODE, r"\Z",
+         'pub extern "C" fn extra(a: u8) -> u8\n    requires { ⌜ a < 9 ⌝ }\n    ensures { λ r. ⌜ r ≡ a ⌝ }\n{\n    a\n}\n'),
+    ],
+    (repository, "no hole and no axiom"): [
+        ("a hole", LAWS, r"\Z", "\nextra : 0 ≡ 0\nextra = ?\n"),
+        ("an axiom", LAWS, r"\Z", "\naxiom pub extra : 0 ≡ 1\n"),
+    ],
+    (repository, "symbols are the library's"): [
+        ("another equality in a contract", CODE, r"mathlib\.Core\.Path\.\{_≡_", "mathlib.Core.Pair.{_≡_"),
+        ("an order of one's own", SPECS, r"\Z", "\nabbrev pub _≤_ : ℕ → ℕ → Bool\n_≤_ m n = true\n"),
+    ],
+    (repository, "the definition has no code"): [
+        ("code", "crates/definition/src/lib.rt", r"\Z", "const A: u8 = 1;\n"),
+        ("a declared type", LIMITS, r"\Z", "use Rattle.model.specs.declared.Span.{Span}\n"),
+        ("a declared type in a cited file", SPECS, r"\Z", "use Rattle.octets.specs.declared.Cursor.{Cursor}\n"),
+    ],
+    (repository, "README lists the crates"): [
+        ("a row left out", "README.md", r"^\| `octets` .*\n", ""),
+    ],
+    (repository, "paths in documents are there"): [
+        ("a path to nothing", "README.md", r"\Z", "See docs/NOWHERE.md.\n"),
+    ],
+    (repository, "vectors are Python's"): [
+        ("a digest", VECTORS, r"^e3b0c44298fc1c14", "e3b0c44298fc1c15"),
+        ("a digest too many", VECTORS, r"\Z", "00\n"),
+    ],
+    (repository, "files are in rt fmt's layout"): [
+        ("a blank too many", CODE, r"pub fn equal", "pub  fn equal"),
+    ],
+}
+
+def copied(folder):
+    """A copy of what the checks read."""
+    for name in ("crates", "docs", "tests", ".ci"):
+        shutil.copytree(HERE / name, folder / name, ignore=shutil.ignore_patterns("__pycache__"))
+    for name in ("crates.txt", "README.md", "NOTICE"):
+        shutil.copy(HERE / name, folder / name)
+
+
+def noticed(folder, check, path, pattern, new):
+    """A check that passes on the copy, and fails once the file is damaged."""
+    def go(_root):
+        file = folder / path
+        if not file.exists():
+            raise Skip(f"{path} is not there yet")
+        whole = file.read_text(encoding="utf-8")
+        text, times = re.subn(pattern, new, whole, count=1, flags=re.M)
+        if faults_of(check, folder):
+            yield "it fails without the damage"
+        elif not times or text == whole:
+            yield f"{path} has no {pattern}"
+        else:
+            file.write_text(text, encoding="utf-8")
+            if not faults_of(check, folder):
+                yield f"{path} passes"
+            file.write_text(whole, encoding="utf-8")
+    return go
+
+
+def covered(_root):
+    """Each check has a damage."""
+    for script in (layout, repository):
+        for name in script.CHECKS:
+            if not DAMAGES.get((script, name)):
+                yield f"{script.__name__}: {name}"
+
+
+def main():
+    with tempfile.TemporaryDirectory() as name:
+        folder = pathlib.Path(name)
+        copied(folder)
+        checks = {"each check has a damage": covered}
+        for (script, check), rows in DAMAGES.items():
+            for what, *damage in rows:
+                checks[f"{check}: {what}"] = noticed(folder, script.CHECKS[check], *damage)
+        return run("damaged", checks)
+
+
+if __name__ == "__main__":
+    sys.exit(main())

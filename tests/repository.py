@@ -1,0 +1,204 @@
+#!/usr/bin/env python3
+"""Rules of the repository that the prover does not check."""
+import pathlib
+import re
+import shutil
+import subprocess
+import sys
+import tempfile
+
+from checklist import Skip, run
+
+# Symbols that a reader of a contract takes for the library's, and the only module that may give them.
+MEANING = {
+    "mathlib.Core.Path": ["_≡_"],
+    "Prim.Native.Nat": ["ℕ", "_+_", "_-_", "_*_", "_/_", "_%_", "_^_", "_<_", "_≤_"],
+    "mathlib.Core.List": ["List", "[]", "_∷_", "_++_"],
+    "mathlib.Core.Bool": ["Bool", "true", "false", "cond", "not", "_&&_", "_||_"],
+    "mathlib.Core.Option": ["Option", "none", "some"],
+    "lib.ListN": ["length", "take", "drop", "getD"],
+}
+HOME = {name: module for module, names in MEANING.items() for name in names}
+
+DOCUMENTS = ["README.md", "NOTICE", "docs/*.md"]
+
+
+def texts(root, *patterns):
+    """Path below the root, and text, of the files that match."""
+    for pattern in patterns:
+        for path in sorted(root.glob(pattern)):
+            yield path.relative_to(root).as_posix(), path.read_text(encoding="utf-8")
+
+
+def code(root):
+    """The Rattle sources, comments blanked."""
+    for path, text in texts(root, "crates/*/src/**/*.rt"):
+        yield path, re.sub(r"//[^\n]*", lambda m: " " * len(m.group(0)), text)
+
+
+def proofs(root):
+    """The antt files, comments blanked."""
+    for path, text in texts(root, "crates/**/*.antt"):
+        yield path, re.sub(r"--[^\n]*", lambda m: " " * len(m.group(0)), text)
+
+
+def line(text, at):
+    return text.count("\n", 0, at) + 1
+
+
+def listed(root):
+    """The crates of crates.txt, in order."""
+    rows = (root / "crates.txt").read_text(encoding="utf-8").splitlines()
+    return [row.split(":")[0].strip() for row in rows if ":" in row]
+
+
+def signature(text, at):
+    """What stands from a function's name to its body: the body's brace opens where no clause is open."""
+    depth = 0
+    for i in range(at, len(text)):
+        if text[i] == "{":
+            if depth == 0 and not re.search(r"\b(requires|ensures)(\s+\w+)?\s*$", text[at:i]):
+                return text[at:i]
+            depth += 1
+        elif text[i] == "}":
+            depth -= 1
+    return text[at:]
+
+
+def functions(root):
+    """Place, name, whether exported to C, and signature of each public function."""
+    for path, text in code(root):
+        for found in re.finditer(r'\bpub\s+(extern\s+"C"\s+)?fn\s+(\w+)', text):
+            where = f"{path}:{line(text, found.start())}"
+            yield where, found.group(2), bool(found.group(1)), signature(text, found.end())
+
+
+def crates(root):
+    """Each folder of crates/ is listed in crates.txt, once, and each listed crate is there."""
+    names, folders = listed(root), sorted(path.name for path in (root / "crates").iterdir() if path.is_dir())
+    for name in folders:
+        if names.count(name) != 1:
+            yield f"crates/{name} is listed {names.count(name)} times in crates.txt"
+    for name in names:
+        if name not in folders:
+            yield f"crates.txt lists {name}, and crates/{name} is not there"
+
+
+def promises(root):
+    """Each public function has an `ensures`."""
+    for where, name, _, head in functions(root):
+        if not re.search(r"\bensures\b", head):
+            yield f"{where}: {name} has no ensures"
+
+
+def entries(root):
+    """No function that a host calls has a `requires`."""
+    for where, name, exported, head in functions(root):
+        if exported and re.search(r"\brequires\b", head):
+            yield f"{where}: {name} is an entry point with a requires"
+
+
+def holes(root):
+    """No proof has a hole and none declares an axiom."""
+    for path, text in proofs(root):
+        for found in re.finditer(r"(?<![^\s(=])\?(?![^\s)])|^\s*axiom\b", text, re.M):
+            yield f"{path}:{line(text, found.start())}: {found.group(0).strip()}"
+
+
+def symbols(root):
+    """The symbols of contracts mean what the library says."""
+    imports = r"\buse\s+([^\s{};]+)\.\{([^}]*)\}"
+    for path, text in [*code(root), *proofs(root)]:
+        for found in re.finditer(imports, text):
+            for name in (item.strip().split(" ")[-1] for item in found.group(2).split(",")):
+                if HOME.get(name, found.group(1)) != found.group(1):
+                    yield f"{path}:{line(text, found.start())}: {name} is taken from {found.group(1)}"
+    for path, text in proofs(root):
+        if path.split("/")[2] != "specs":
+            continue
+        # what is indented with `pub` alone is a record's field, which no contract can take for the symbol
+        for found in re.finditer(r"^(?:(?:unfoldable |abbrev |axiom |pub )+| +(?:unfoldable |abbrev )(?:pub )?)(\S+) :", text, re.M):
+            if found.group(1) in HOME:
+                yield f"{path}:{line(text, found.start())}: {found.group(1)} is defined anew"
+
+
+def definition(root):
+    """The definition has no code, and neither it nor what it cites names a type that is declared in code."""
+    for path, text in code(root):
+        if path.startswith("crates/definition/") and text.strip():
+            yield f"{path}: holds code"
+    files = dict(proofs(root))
+    todo, seen = [path for path in files if path.startswith("crates/definition/specs/")], set()
+    while todo:
+        path = todo.pop()
+        if path in seen or path not in files:
+            continue
+        seen.add(path)
+        for found in re.finditer(r"\S*\bdeclared\.\S*", files[path]):
+            yield f"{path}:{line(files[path], found.start())}: {found.group(0)}"
+        for crate, file in re.findall(r"\buse Rattle·(\w+)(?:·specs)?\.specs\.(\w+)", files[path]):
+            todo.append(f"crates/{crate}/specs/{file}.antt")
+
+
+def readme(root):
+    """README.md's table of crates has each crate of crates.txt, and no other."""
+    text = (root / "README.md").read_text(encoding="utf-8")
+    found = re.search(r"^\| Crate \|.*\n\|[-| ]+\n((?:\|.*\n)*)", text, re.M)
+    rows = re.findall(r"^\| `(\w+)` \|", found.group(1), re.M) if found else []
+    if sorted(rows) != sorted(listed(root)):
+        yield f"README.md has {sorted(rows)}, crates.txt {sorted(listed(root))}"
+
+
+def paths(root):
+    """Each path below crates/, docs/, tests/ or .ci/ that a document names is there."""
+    for path, text in texts(root, *DOCUMENTS):
+        names = re.finditer(r"(?<![\w/.])(?:(?:crates|docs|tests|\.ci)/[\w./*-]*[\w*]|[A-Z]+\.md)(?![\w/])", text)
+        for found in names:
+            name = found.group(0)
+            if not any(next(base.glob(name), None) for base in (root, (root / path).parent)):
+                yield f"{path}:{line(text, found.start())}: {name} is not there"
+
+
+def vectors(root):
+    """What the vector programs are to print is what the scripts of tests/vectors give, by Python's library."""
+    scripts = sorted((root / "tests/vectors").glob("*.py"))
+    if not scripts:
+        raise Skip("tests/vectors is not there yet")
+    stored = sorted(root.glob("crates/*_vectors/stdout"))
+    with tempfile.TemporaryDirectory() as name:
+        copy = pathlib.Path(name)
+        shutil.copytree(root / "tests/vectors", copy / "tests/vectors")
+        for file in stored:
+            (copy / file.parent.relative_to(root)).mkdir(parents=True)
+        for script in scripts:
+            subprocess.run([sys.executable, "-B", copy / script.relative_to(root)], cwd=copy, check=True)
+        for file in stored:
+            made = copy / file.relative_to(root)
+            if not made.exists():
+                yield f"no script writes {file.relative_to(root)}"
+            elif made.read_bytes() != file.read_bytes():
+                yield f"{file.relative_to(root)} is not what the scripts write"
+
+
+def layout(root):
+    """`rt fmt` would change nothing."""
+    done = subprocess.run(["rt", "fmt", "--check"], cwd=root, stdout=subprocess.PIPE, stderr=subprocess.STDOUT, text=True)
+    if done.returncode:
+        yield from done.stdout.replace(f"{root}/", "").splitlines()[-5:] or [f"rt fmt --check: exit status {done.returncode}"]
+
+
+CHECKS = {
+    "crates are listed": crates,
+    "public functions have an ensures": promises,
+    "entry points have no requires": entries,
+    "no hole and no axiom": holes,
+    "symbols are the library's": symbols,
+    "the definition has no code": definition,
+    "README lists the crates": readme,
+    "paths in documents are there": paths,
+    "vectors are Python's": vectors,
+    "files are in rt fmt's layout": layout,
+}
+
+if __name__ == "__main__":
+    sys.exit(run("repository", CHECKS))
