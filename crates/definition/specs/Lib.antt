@@ -1,4 +1,5 @@
 pub mod Utf8
+pub mod Utf8Laws
 pub mod Limits
 pub mod White
 pub mod Cause

@@ -1,0 +1,28 @@
+-- The rows of three bytes.
+use mathlib.Core.Path.{_∙_}
+use native.Mathlib.Omega.{arith}
+use borrow.Author.Needs.{needs}
+use Rattle.definition.specs.Utf8.{_–_, leads, follows}
+use Rattle.utf8.specs.Meaning.{toCome, after}
+use Rattle.utf8.proofs.Rows.{row-on}
+use Rattle.utf8.proofs.lead3.Statement.{statement}
+use Rattle.utf8.proofs.lead3.Tie as tie
+
+returns : tie.Need-returns
+unfolding toCome after leads follows
+returns c = c .to-come .ensures ∙ row-on (toCome 2 (0xA0 – 0xBF)) 1 0xE0 tt (c .before .before .args .b) (omega arith) (omega arith)
+
+returns-2 : tie.Need-returns-2
+unfolding toCome after leads follows
+returns-2 c = c .to-come2 .ensures ∙ row-on (toCome 2 (0x80 – 0xBF)) 12 0xE1 tt (c .before .before .before .args .b) (omega arith) (omega arith)
+
+returns-3 : tie.Need-returns-3
+unfolding toCome after leads follows
+returns-3 c = c .to-come3 .ensures ∙ row-on (toCome 2 (0x80 – 0x9F)) 1 0xED tt (c .before .before .before .before .args .b) (omega arith) (omega arith)
+
+returns-4 : tie.Need-returns-4
+unfolding toCome after leads follows
+returns-4 c = c .to-come4 .ensures ∙ row-on (toCome 2 (0x80 – 0xBF)) 2 0xEE tt (c .before .before .before .before .args .b) (omega arith) (omega arith)
+
+pub lead3-spec : {M : Type 1} → statement M
+lead3-spec = tie.close (tie.spec (λ c κs. search needs) returns (λ c κs. search needs) returns-2 (λ c κs. search needs) returns-3 (λ c κs. search needs) returns-4)
