@@ -76,7 +76,7 @@ splice-two b k l u v hl h =
     ∙ drop-append-add (take k b ++ u) (drop (k + l) b) (length v)
     ∙ drop-drop (length v) (k + l) b
     ∙ rw (length-append, hl, ← add-assoc) in
-    rw (e, t, d, append-assoc, append-assoc)
+    rw (e, t, d, append-assoc (take k b) u, append-assoc u v)
 
 -- a splice after what gave b
 pub after : (b c d : Bytes) (k : ℕ) (v : Bytes) → d ≡ splice c k v → c ≡ b → d ≡ splice b k v
@@ -115,6 +115,12 @@ lent-length b k n h = omega (arith, length-take (k + n - k) (drop k b), length-d
 pub back : (b : Bytes) (k e : ℕ) (w v : Bytes) → w ≡ v → length v ≡ e - k → take k b ++ (w ++ drop (e - k) (drop k b)) ≡ splice b k v
 unfolding splice
 back b k e w v q h = rw (q, drop-drop, h)
+
+-- the same, where what came back is made for the part's length
+pub back-made :
+    (b : Bytes) (k n : ℕ) (w : Bytes) (f : ℕ → Bytes) → ((m : ℕ) → length (f m) ≡ m) → k + n ≤ length b →
+    w ≡ f (length (take (k + n - k) (drop k b))) → take k b ++ (w ++ drop (k + n - k) (drop k b)) ≡ splice b k (f n)
+back-made b k n w f l h q = back b k (k + n) w (f n) (q ∙ ap f (lent-length b k n h)) (omega (arith, l n))
 
 -- what stands in a slice of m + n bytes after its first m were lent, and then the others
 pub two-parts :
