@@ -20,3 +20,12 @@ pub mod Alarm
 pub mod Station
 pub mod ChainLaws
 pub mod Fields
+pub mod Slot
+pub mod Record
+pub mod JoinLaws
+pub mod SlotLaws
+pub mod ObjectLaws
+pub mod ScopeLaws
+pub mod RecordLaws
+pub mod WriteLaws
+pub mod IdentityLaws
