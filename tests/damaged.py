@@ -14,7 +14,7 @@ RECORD, BOOK = "crates/definition/specs/Record.antt", "crates/definition/specs/B
 LIMITS, MODEL = "crates/definition/specs/Limits.antt", "crates/model/src/lib.rt"
 CODE, SPECS, LAWS = "crates/octets/src/lib.rt", "crates/octets/specs/Bytes.antt", "crates/octets/specs/BoolLaws.antt"
 VECTORS = "crates/sha256_vectors/stdout"
-JSON, PAGE = "docs/layout.json", "docs/LAYOUT.md"
+JSON, PAGE, CLAIMS = "docs/layout.json", "docs/LAYOUT.md", "docs/CLAIMS.md"
 
 # For each check: what is damaged, in which file, the pattern, and what takes its place.
 DAMAGES = {
@@ -86,6 +86,10 @@ DAMAGES = {
     ],
     (repository, "README lists the crates"): [
         ("a row left out", "README.md", r"^\| `octets` .*\n", ""),
+    ],
+    (repository, "claims are there, one for each public function"): [
+        ("a theorem that is not there", CLAIMS, r"`published`", "`publicised`"),
+        ("a public function left out", CLAIMS, r"`put_zeros`", "`put_bytes`"),
     ],
     (repository, "paths in documents are there"): [
         ("a path to nothing", "README.md", r"\Z", "See docs/NOWHERE.md.\n"),

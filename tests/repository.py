@@ -149,6 +149,34 @@ def readme(root):
         yield f"README.md has {sorted(rows)}, crates.txt {sorted(listed(root))}"
 
 
+def claimed(root):
+    """Line, names in code marks, and files of each row of docs/CLAIMS.md's tables of demands; an empty file cell is the one above."""
+    files, reading = [], False
+    for number, row in enumerate((root / "docs/CLAIMS.md").read_text(encoding="utf-8").splitlines(), 1):
+        cells = [cell.strip() for cell in row.strip("|").split("|")] if row.startswith("|") else []
+        if cells[:1] == ["Demand"]:
+            reading = True
+        elif not cells:
+            reading = False
+        elif reading and not set(row) <= set("|-: "):
+            files = re.findall(r"`([^`]+)`", cells[2]) or files
+            yield number, re.findall(r"`([^`]+)`", cells[1]), files
+
+
+def claims(root):
+    """What docs/CLAIMS.md names is in the files that it gives, and each public function is named there."""
+    named = set()
+    for number, names, files in claimed(root):
+        text = "\n".join((root / file).read_text(encoding="utf-8") for file in files)
+        for name in names:
+            named.update((name, file) for file in files)
+            if not re.search(rf"\bpub (?:extern \"C\" )?fn {re.escape(name)}\b|^\s*(?:\w+ )*{re.escape(name)} :", text, re.M):
+                yield f"docs/CLAIMS.md:{number}: {name} is not in {', '.join(files)}"
+    for where, name, _, _ in functions(root):
+        if (name, where.rsplit(":", 1)[0]) not in named:
+            yield f"{where}: {name} is not in docs/CLAIMS.md"
+
+
 def paths(root):
     """Each path below crates/, docs/, tests/ or .ci/ that a document names is there."""
     for path, text in texts(root, *DOCUMENTS):
@@ -195,6 +223,7 @@ CHECKS = {
     "symbols are the library's": symbols,
     "the definition has no code": definition,
     "README lists the crates": readme,
+    "claims are there, one for each public function": claims,
     "paths in documents are there": paths,
     "vectors are Python's": vectors,
     "files are in rt fmt's layout": layout,
