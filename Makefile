@@ -5,8 +5,9 @@
 test:
 	@tests/run
 
-# The register's entry points are not built yet. Until then: the key's hash is proved, and its published vectors are run.
 run:
+	@echo "The main job, opening a register and stepping it by calls, is not built yet."
+	@echo "Today: the hash of the alarms' keys is proved, and run on published and generated messages."
 	@rt check sha256_vectors
 
 fmt:
