@@ -1,0 +1,139 @@
+-- Each change of an alarm keeps its fields legal, and an event has legal fields.
+use Prim.Native.Nat.{ℕ, _≤_}
+use mathlib.Core.Bool.{Bool, true, false, cond}
+use native.Mathlib.Omega.{arith}
+use lib.Dec.{leb}
+use Rattle.octets.specs.Bytes.{Bytes}
+use Rattle.definition.specs.Value.{RaiseValue, PolicyValue}
+use Rattle.definition.specs.Alarm.{Alarm}
+use Rattle.definition.specs.Steps.{updatedState, updatedBy, newAlarm, clearedBy, Action, acknowledging, suppressing, actionState, actionByte, actedOn, eventOf, expiredBy}
+use Rattle.definition.specs.Fields.{Time, KeyOf, LegalAlarm, LegalEvent, LegalRaise, LegalPolicy}
+use Rattle.definition.specs.KeepLaws.{late-time}
+
+-- ---- the changes of an alarm
+
+pub past : (a : Alarm) → LegalAlarm 3 a → LegalAlarm 5 a
+past a p = record {
+  id = p .id;
+  type = p .type;
+  severity = p .severity;
+  about = p .about;
+  text = p .text;
+  details = p .details;
+  state = omega (arith, p .state);
+  raisedAt = p .raisedAt;
+  updatedAt = p .updatedAt;
+  clearedAt = p .clearedAt;
+  key = p .key;
+}
+
+updatedState-active : (n : ℕ) → n ≤ 3 → updatedState n ≤ 3
+updatedState-active n h = go (leb n 1)
+  where
+    go : (b : Bool) → cond b 1 n ≤ 3
+    go true = omega arith
+    go false = h
+
+pub updated-legal : (c : RaiseValue) (a : Alarm) → LegalRaise c → LegalAlarm 3 a → LegalAlarm 3 (updatedBy c a)
+unfolding updatedBy
+updated-legal c a r p = record {
+  id = p .id;
+  type = p .type;
+  severity = r .severity;
+  about = p .about;
+  text = r .text;
+  details = r .details;
+  state = updatedState-active (a .state) (p .state);
+  raisedAt = p .raisedAt;
+  updatedAt = late-time (c .head .time) (a .raisedAt) (r .time) (p .raisedAt);
+  clearedAt = p .clearedAt;
+  key = p .key;
+}
+
+pub new-legal : (c : RaiseValue) (k : Bytes) → LegalRaise c → KeyOf k → LegalAlarm 3 (newAlarm c k)
+unfolding newAlarm
+new-legal c k r h = record {
+  id = r .id;
+  type = r .type;
+  severity = r .severity;
+  about = r .key;
+  text = r .text;
+  details = r .details;
+  state = omega arith;
+  raisedAt = r .time;
+  updatedAt = r .time;
+  clearedAt = tt;
+  key = h;
+}
+
+pub cleared-legal : (t : ℕ) (a : Alarm) → Time t → LegalAlarm 3 a → LegalAlarm 5 (clearedBy t a)
+unfolding clearedBy
+cleared-legal t a h p = record {
+  id = p .id;
+  type = p .type;
+  severity = omega arith;
+  about = p .about;
+  text = p .text;
+  details = p .details;
+  state = omega arith;
+  raisedAt = p .raisedAt;
+  updatedAt = late-time t (a .raisedAt) h (p .raisedAt);
+  clearedAt = late-time t (a .raisedAt) h (p .raisedAt);
+  key = p .key;
+}
+
+actionState-active : (x : Action) → actionState x ≤ 3
+actionState-active acknowledging = omega arith
+actionState-active suppressing = omega arith
+
+pub acted-legal : (x : Action) (t : ℕ) (a : Alarm) → Time t → LegalAlarm 3 a → LegalAlarm 3 (actedOn x t a)
+unfolding actedOn
+acted-legal x t a h p = record {
+  id = p .id;
+  type = p .type;
+  severity = p .severity;
+  about = p .about;
+  text = p .text;
+  details = p .details;
+  state = actionState-active x;
+  raisedAt = p .raisedAt;
+  updatedAt = late-time t (a .raisedAt) h (p .raisedAt);
+  clearedAt = p .clearedAt;
+  key = p .key;
+}
+
+pub expired-legal : (t : ℕ) (a : Alarm) → Time t → LegalAlarm 3 a → LegalAlarm 5 (expiredBy t a)
+unfolding expiredBy
+expired-legal t a h p = record {
+  id = p .id;
+  type = p .type;
+  severity = p .severity;
+  about = p .about;
+  text = p .text;
+  details = p .details;
+  state = omega arith;
+  raisedAt = p .raisedAt;
+  updatedAt = h;
+  clearedAt = h;
+  key = p .key;
+}
+
+actionByte-small : (x : Action) → actionByte x ≤ 1
+actionByte-small acknowledging = omega arith
+actionByte-small suppressing = omega arith
+
+pub event-legal : (x : Action) (outcome : ℕ) (p : PolicyValue) (a : Alarm) → outcome ≤ 1 → LegalPolicy p → LegalAlarm 3 a → LegalEvent (eventOf x outcome p a)
+unfolding eventOf
+event-legal x n p a h q l = record {
+  action = actionByte-small x;
+  outcome = h;
+  id = l .id;
+  type = l .type;
+  cause = l .about .cause;
+  principal = q .principal;
+  tenant = q .tenant;
+  reason = q .reason;
+  scope = q .scope;
+  correlation = q .correlation;
+  occurredAt = late-time (p .actor .time) (a .raisedAt) (q .time) (l .raisedAt);
+}
