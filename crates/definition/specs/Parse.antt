@@ -1,70 +1,90 @@
--- "The call enters": operation byte, then fields in order, nothing after; or the number of its first fault.
+-- "The call enters": "operation byte, then fields in order, nothing after"; or the number of the first fault. Each reader stands under
+-- its row of the table; the lengths are those of "Longest, in bytes".
 use Prim.Native.Nat.{ℕ}
-use mathlib.Core.List.{List, [], _∷_}
+use mathlib.Core.List.{[], _∷_}
 use mathlib.Core.Bool.{Bool, true, false, cond, _||_}
 use mathlib.Core.Option.{Option, none, some}
 use lib.Dec.{leb, eqb}
 use Rattle.octets.specs.Bytes.{Bytes}
 use Rattle.definition.specs.Limits.{shortLimit, regionLimit, textLimit, detailsLimit}
-use Rattle.definition.specs.Reader.{Out, got, bad, Reader, next, _>>=_, give, refuse, number, choice, blob, text, optional, causeText}
-use Rattle.definition.specs.Value.{ObjectValue, nfInstance, interface, peer, sessionStore, slice, tenant, certificate, dataPlaneQueue, PlacesValue, KeyValue, HeadValue, RaiseValue, ClearValue, CallValue, PlainValue, ScopeValue, alarmScope, tenantScope, globalScope, ActorValue, RequestValue, VerdictValue, PolicyValue}
+use Rattle.definition.specs.Reader.{Out, got, bad, Reader, _>>=_, give, refuse, into, number, choice, blob, text, optional, causeText}
+use Rattle.definition.specs.Value.{ObjectValue, PlacesValue, KeyValue, HeadValue, RaiseValue, ClearValue, PlainValue, ScopeValue, ActorValue, RequestValue, VerdictValue, PolicyValue, CallValue}
 
--- ---- the affected object
+-- ---- "An affected object is one of eight kinds, 1 to 8 as `AffectedObject` lists them, with its strings in order; kind 4's shard is
+-- ---- optional, kind 8 ends with a u16 queue."
 
-unfoldable pub two : Reader (Bytes × Bytes)
-two = do
-  a ← text shortLimit
-  b ← text shortLimit
-  give (a, b)
+-- an object string
+abbrev pub name : Reader Bytes
+name = text shortLimit
 
-unfoldable pub store : Reader ObjectValue
-store = do
-  a ← text shortLimit
-  b ← optional (text shortLimit)
-  give (sessionStore a b)
+unfoldable pub pair : (Bytes → Bytes → ObjectValue) → Reader ObjectValue
+pair kind = do
+  a ← name
+  b ← name
+  give (kind a b)
 
-unfoldable pub queue : Reader ObjectValue
-queue = do
-  p ← two
-  n ← number 2
-  give (dataPlaneQueue (p .0) (p .1) n)
+unfoldable pub sessionStore : Reader ObjectValue
+sessionStore = do
+  a ← name
+  shard ← optional name
+  give (ObjectValue.sessionStore a shard)
 
-abbrev pub twoAs : (Bytes → Bytes → ObjectValue) → Reader ObjectValue
-twoAs c = do
-  p ← two
-  give (c (p .0) (p .1))
+unfoldable pub dataPlaneQueue : Reader ObjectValue
+dataPlaneQueue = do
+  a ← name
+  b ← name
+  q ← number 2
+  give (ObjectValue.dataPlaneQueue a b q)
 
-abbrev pub oneAs : (Bytes → ObjectValue) → Reader ObjectValue
-oneAs c = do
-  a ← text shortLimit
-  give (c a)
-
--- the strings of the kind k
 unfoldable pub objectOf : ℕ → Reader ObjectValue
-objectOf k =
-    cond (eqb k 1) (twoAs nfInstance)
-    (cond (eqb k 2) (twoAs interface)
-    (cond (eqb k 3) (twoAs peer)
-    (cond (eqb k 4) store
-    (cond (eqb k 5) (oneAs slice)
-    (cond (eqb k 6) (oneAs tenant)
-    (cond (eqb k 7) (oneAs certificate)
-    queue))))))
+objectOf kind =
+    cond (eqb kind 1) (pair ObjectValue.nfInstance)
+    (cond (eqb kind 2) (pair ObjectValue.interface)
+    (cond (eqb kind 3) (pair ObjectValue.peer)
+    (cond (eqb kind 4) sessionStore
+    (cond (eqb kind 5) (into ObjectValue.slice name)
+    (cond (eqb kind 6) (into ObjectValue.tenant name)
+    (cond (eqb kind 7) (into ObjectValue.certificate name)
+    dataPlaneQueue))))))
 
 unfoldable pub object : Reader ObjectValue
 object = do
-  k ← choice 1 8
-  objectOf k
+  kind ← choice 1 8
+  objectOf kind
 
--- ---- the calls
+-- ---- "Scope: 0 alarm with id, 1 tenant with string, 2 global."
 
+unfoldable pub scopeOf : ℕ → Reader ScopeValue
+scopeOf kind =
+    cond (eqb kind 0) (into ScopeValue.alarmScope (text shortLimit))
+    (cond (eqb kind 1) (into ScopeValue.tenantScope (text shortLimit))
+    (give ScopeValue.globalScope))
+
+unfoldable pub scope : Reader ScopeValue
+scope = do
+  kind ← choice 0 2
+  scopeOf kind
+
+-- ---- 1 raise: time, id, type, severity, cause, object, tenant?, slice?, region?, text, details?
+
+-- time, id, type, severity
+unfoldable pub head : Reader HeadValue
+head = do
+  time ← number 8
+  id ← text shortLimit
+  type ← text shortLimit
+  severity ← choice 0 5
+  give (record { time = time; id = id; type = type; severity = severity })
+
+-- tenant?, slice?, region?
 unfoldable pub places : Reader PlacesValue
 places = do
-  t ← optional (text shortLimit)
-  s ← optional (text shortLimit)
-  r ← optional (text regionLimit)
-  give (record { tenant = t; slice = s; region = r })
+  tenant ← optional (text shortLimit)
+  slice ← optional (text shortLimit)
+  region ← optional (text regionLimit)
+  give (record { tenant = tenant; slice = slice; region = region })
 
+-- cause, object, tenant?, slice?, region?
 unfoldable pub key : Reader KeyValue
 key = do
   c ← causeText
@@ -72,19 +92,12 @@ key = do
   p ← places
   give (record { cause = c; object = o; places = p })
 
-unfoldable pub head : Reader HeadValue
-head = do
-  t ← number 8
-  i ← text shortLimit
-  k ← text shortLimit
-  v ← choice 0 5
-  give (record { time = t; id = i; type = k; severity = v })
-
-unfoldable pub body : HeadValue → KeyValue → Reader CallValue
+-- text, details?
+unfoldable pub body : HeadValue → KeyValue → Reader RaiseValue
 body h k = do
-  x ← text textLimit
+  t ← text textLimit
   d ← optional (blob detailsLimit)
-  give (CallValue.raise (record { head = h; key = k; text = x; details = d }))
+  give (record { head = h; key = k; text = t; details = d })
 
 -- a region that is there has a byte
 abbrev pub named : Option Bytes → Bool
@@ -92,135 +105,106 @@ named none = true
 named (some []) = false
 named (some (b ∷ s)) = true
 
--- 1 raise; 29: "raise with an empty region", at the region, before the text
-unfoldable pub raiseCall : Reader CallValue
-raiseCall = do
+-- 29: "raise with an empty region", at the region, before the text is read
+unfoldable pub raiseFields : Reader RaiseValue
+raiseFields = do
   h ← head
   k ← key
   cond (named (k .places .region)) (body h k) (refuse 29)
 
-unfoldable pub clearCall : Reader CallValue
-clearCall = do
-  t ← number 8
-  k ← text shortLimit
-  y ← key
-  give (CallValue.clear (record { time = t; type = k; key = y }))
+-- ---- 2 clear: time, type, cause, object, tenant?, slice?, region?
 
-unfoldable pub expireCall : Reader CallValue
-expireCall = do
-  t ← number 8
-  give (CallValue.expire t)
+unfoldable pub clearFields : Reader ClearValue
+clearFields = do
+  time ← number 8
+  type ← text shortLimit
+  k ← key
+  give (record { time = time; type = type; key = k })
 
-unfoldable pub takeCall : Reader CallValue
-takeCall = do
-  n ← number 2
-  give (CallValue.takeAudit n)
+-- ---- 3 acknowledge, 4 suppress: time, id, authorised (0 or 1)
 
-unfoldable pub plain : Reader PlainValue
-plain = do
-  t ← number 8
-  i ← text shortLimit
-  a ← choice 0 1
-  give (record { time = t; id = i; authorised = a })
+unfoldable pub plainFields : Reader PlainValue
+plainFields = do
+  time ← number 8
+  id ← text shortLimit
+  authorised ← choice 0 1
+  give (record { time = time; id = id; authorised = authorised })
 
--- 0 alarm with id, 1 tenant with string, 2 global
-unfoldable pub scope : Reader ScopeValue
-scope = do
-  k ← choice 0 2
-  cond (eqb k 2) (give globalScope) (do
-    s ← text shortLimit
-    cond (eqb k 0) (give (alarmScope s)) (give (tenantScope s)))
+-- ---- 5, 6 the same with policy: time, id, principal, tenant?, reason, scope, correlation?, critical-allowed (0 or 1), authorised
+-- ---- (0 or 1), denial message
 
+-- time, id, principal, tenant?
 unfoldable pub actor : Reader ActorValue
 actor = do
-  t ← number 8
-  i ← text shortLimit
-  p ← text shortLimit
-  n ← optional (text shortLimit)
-  give (record { time = t; id = i; principal = p; tenant = n })
+  time ← number 8
+  id ← text shortLimit
+  principal ← text shortLimit
+  tenant ← optional (text shortLimit)
+  give (record { time = time; id = id; principal = principal; tenant = tenant })
 
+-- reason, scope, correlation?
 unfoldable pub request : Reader RequestValue
 request = do
-  r ← text textLimit
+  reason ← text textLimit
   s ← scope
-  c ← optional (text shortLimit)
-  give (record { reason = r; scope = s; correlation = c })
+  correlation ← optional (text shortLimit)
+  give (record { reason = reason; scope = s; correlation = correlation })
 
+-- critical-allowed, authorised, denial message
 unfoldable pub verdict : Reader VerdictValue
 verdict = do
-  c ← choice 0 1
-  a ← choice 0 1
-  d ← text regionLimit
-  give (record { critical = c; authorised = a; denial = d })
+  critical ← choice 0 1
+  authorised ← choice 0 1
+  denial ← text regionLimit
+  give (record { critical = critical; authorised = authorised; denial = denial })
 
-unfoldable pub policy : Reader PolicyValue
-policy = do
+unfoldable pub policyFields : Reader PolicyValue
+policyFields = do
   a ← actor
   r ← request
   v ← verdict
   give (record { actor = a; request = r; verdict = v })
 
-unfoldable pub acknowledgeCall : Reader CallValue
-acknowledgeCall = do
-  p ← plain
-  give (CallValue.acknowledge p)
+-- ---- 8 active list: severity, or 255 for all
 
-unfoldable pub suppressCall : Reader CallValue
-suppressCall = do
-  p ← plain
-  give (CallValue.suppress p)
-
-unfoldable pub acknowledgePolicyCall : Reader CallValue
-acknowledgePolicyCall = do
-  p ← policy
-  give (CallValue.acknowledgePolicy p)
-
-unfoldable pub suppressPolicyCall : Reader CallValue
-suppressPolicyCall = do
-  p ← policy
-  give (CallValue.suppressPolicy p)
-
--- a severity, or 255 for all
-unfoldable pub activeCall : Reader CallValue
-activeCall = do
+unfoldable pub severityOrAll : Reader ℕ
+severityOrAll = do
   b ← number 1
-  cond (leb b 5 || eqb b 255) (give (CallValue.active b)) (refuse 25)
+  cond (leb b 5 || eqb b 255) (give b) (refuse 25)
 
-unfoldable pub historyCall : Reader CallValue
-historyCall = do
-  t ← optional (text shortLimit)
-  s ← optional (text shortLimit)
-  give (CallValue.history t s)
+-- ---- 9 history: tenant?, slice?
 
--- the fields of operations 7 to 12
-unfoldable pub reportsOf : ℕ → Reader CallValue
-reportsOf op =
-    cond (eqb op 7) expireCall
-    (cond (eqb op 8) activeCall
-    (cond (eqb op 9) historyCall
-    (cond (eqb op 10) (give CallValue.counts)
-    (cond (eqb op 11) (give CallValue.summary)
-    (cond (eqb op 12) takeCall
-    (refuse 23))))))
+unfoldable pub historyFields : Reader CallValue
+historyFields = do
+  tenant ← optional (text shortLimit)
+  slice ← optional (text shortLimit)
+  give (CallValue.history tenant slice)
 
--- the fields of an operation
+-- ---- the table: 7 expire: cutoff time; 10 counts, 11 summary: none; 12 take audit: u16 n. 23: "op not 1 to 12"
+
 unfoldable pub fieldsOf : ℕ → Reader CallValue
 fieldsOf op =
-    cond (eqb op 1) raiseCall
-    (cond (eqb op 2) clearCall
-    (cond (eqb op 3) acknowledgeCall
-    (cond (eqb op 4) suppressCall
-    (cond (eqb op 5) acknowledgePolicyCall
-    (cond (eqb op 6) suppressPolicyCall
-    (reportsOf op))))))
+    cond (eqb op 1) (into CallValue.raise raiseFields)
+    (cond (eqb op 2) (into CallValue.clear clearFields)
+    (cond (eqb op 3) (into CallValue.acknowledge plainFields)
+    (cond (eqb op 4) (into CallValue.suppress plainFields)
+    (cond (eqb op 5) (into CallValue.acknowledgePolicy policyFields)
+    (cond (eqb op 6) (into CallValue.suppressPolicy policyFields)
+    (cond (eqb op 7) (into CallValue.expire (number 8))
+    (cond (eqb op 8) (into CallValue.active severityOrAll)
+    (cond (eqb op 9) historyFields
+    (cond (eqb op 10) (give CallValue.counts)
+    (cond (eqb op 11) (give CallValue.summary)
+    (cond (eqb op 12) (into CallValue.takeAudit (number 2))
+    (refuse 23))))))))))))
 
 -- "nothing after": 24 for "bytes left over"
 abbrev pub whole : Out CallValue → CallValue
-whole (got v []) = v
-whole (got v (b ∷ s)) = CallValue.refused 24
+whole (got c []) = c
+whole (got c (b ∷ s)) = CallValue.refused 24
 whole (bad n) = CallValue.refused n
 
--- 23: "empty, or op not 1 to 12"
-unfoldable pub parseCall : List ℕ → CallValue
+-- 23: "empty"
+unfoldable pub parseCall : Bytes → CallValue
 parseCall [] = CallValue.refused 23
 parseCall (op ∷ s) = whole (fieldsOf op s)

@@ -1,8 +1,7 @@
 -- "Each field is read from a part of the call's bytes": a reader takes the bytes that are left, and gives a value and the bytes
 -- left after it, or the number of a refusal.
 use Prim.Native.Nat.{ℕ}
-use mathlib.Core.List.{List}
-use mathlib.Core.Bool.{Bool, cond, _&&_}
+use mathlib.Core.Bool.{cond, _&&_}
 use mathlib.Core.Option.{Option, none, some}
 use lib.Dec.{leb, eqb}
 use lib.ListN.{length, take, drop}
@@ -34,11 +33,18 @@ module _ {A : Type 0} where
   abbrev pub refuse : ℕ → Reader A
   refuse n s = bad n
 
+module _ {A B : Type 0} where
+  -- what is read, as a value of another kind
+  unfoldable pub into : (A → B) → Reader A → Reader B
+  into c r = do
+    a ← r
+    give (c a)
+
 -- n bytes; 24: "ends early"
 unfoldable pub bytes : ℕ → Reader Bytes
 bytes n s = cond (leb n (length s)) (got (take n s) (drop n s)) (bad 24)
 
--- a number of n bytes
+-- a number of n bytes: "unsigned and big-endian"
 unfoldable pub number : ℕ → Reader ℕ
 number n = do
   b ← bytes n
@@ -56,7 +62,7 @@ blob limit = do
   n ← number 4
   cond (leb n limit) (bytes n) (refuse 26)
 
--- a string; 27: "not UTF-8"
+-- a string; 27: "string not UTF-8"
 unfoldable pub text : ℕ → Reader Bytes
 text limit = do
   t ← blob limit
