@@ -28,13 +28,25 @@ module _ (a b : Bool) {P Q : Type 0} where
   pub pair-from : (P → T a) → (Q → T b) → P × Q → T (a && b)
   pair-from f g p = both a b (f (p .0)) (g (p .1))
 
--- ---- a limit
+-- ---- limits
 
 limit-to : (n : ℕ) → T (isLimit n) → Limit n
 limit-to n = pair-to (leb 1 n) (leb n 65535) (leb→le 1 n) (leb→le n 65535)
 
 limit-from : (n : ℕ) → Limit n → T (isLimit n)
 limit-from n = pair-from (leb 1 n) (leb n 65535) (le→leb 1 n) (le→leb n 65535)
+
+pub limits-to : (a h e : ℕ) → T (isLimit a && (isLimit h && isLimit e)) → Limit a × Limit h × Limit e
+limits-to a h e t =
+    let r = both-right (isLimit a) (isLimit h && isLimit e) t in (
+      limit-to a (both-left (isLimit a) (isLimit h && isLimit e) t),
+      limit-to h (both-left (isLimit h) (isLimit e) r),
+      limit-to e (both-right (isLimit h) (isLimit e) r),
+    )
+
+pub limits-from : (a h e : ℕ) → Limit a × Limit h × Limit e → T (isLimit a && (isLimit h && isLimit e))
+limits-from a h e l =
+    both (isLimit a) (isLimit h && isLimit e) (limit-from a (l .0)) (both (isLimit h) (isLimit e) (limit-from h (l .1)) (limit-from e (l .2)))
 
 -- ---- the records of a chain
 
@@ -79,13 +91,13 @@ records-from n (e ∷ c) s h =
     both (isRecord n e) (every (isRecord n) c) (record-from n e (r .0) (r .1) (s .0))
     (records-from n c (s .1) (λ j k. h j (omega (arith, times-cons e c j))))
 
-zeroed-to : (c : List Record) → T (every isZeroed c) → Blank c
+pub zeroed-to : (c : List Record) → T (every isZeroed c) → Blank c
 unfolding every
 zeroed-to [] t = tt
 zeroed-to (e ∷ c) t =
     (sym (same→eq (zeros 1532) (e .content) (both-left (isZeroed e) (every isZeroed c) t)), zeroed-to c (both-right (isZeroed e) (every isZeroed c) t))
 
-zeroed-from : (c : List Record) → Blank c → T (every isZeroed c)
+pub zeroed-from : (c : List Record) → Blank c → T (every isZeroed c)
 unfolding every
 zeroed-from [] b = tt
 zeroed-from (e ∷ c) b =
@@ -175,7 +187,7 @@ legal-to s t =
     let h : (x : ℕ) → Sized (chain x s) × Inside (capacity s) (chain x s) = λ x. records-to (capacity s) (chain x s) (four-to (every (isRecord (capacity s))) s (c .records) x) in
     let o = once-to (capacity s) s (c .once) in
     record {
-      limits = limits (c .limits);
+      limits = limits-to (s .limitA) (s .limitH) (s .limitE) (c .limits);
       within = lengths-to s (c .lengths);
       filled = sym (sum-total (capacity s) s (λ x k. h x .1)) ∙ sum-ones (λ j. total j s) (capacity s) o;
       once = o;
@@ -184,20 +196,11 @@ legal-to s t =
       blank = zeroed-to (s .free) (c .zeroed);
       counters = pair-to (ltb (s .successes) 18446744073709551616) (ltb (s .failures) 18446744073709551616) (ltb→lt _ _) (ltb→lt _ _) (c .counters);
     }
-  where
-    limits : T (limitsLegal s) → Limit (s .limitA) × Limit (s .limitH) × Limit (s .limitE)
-    limits l =
-        let r = both-right (isLimit (s .limitA)) _ l in (
-          limit-to (s .limitA) (both-left (isLimit (s .limitA)) _ l),
-          limit-to (s .limitH) (both-left (isLimit (s .limitH)) _ r),
-          limit-to (s .limitE) (both-right (isLimit (s .limitH)) _ r),
-        )
 
 pub legal-from : (s : Book) → Legal s → T (legalBook s)
 legal-from s l =
     tests-from s (record {
-      limits = both (isLimit (s .limitA)) _ (limit-from (s .limitA) (l .limits .0))
-          (both (isLimit (s .limitH)) _ (limit-from (s .limitH) (l .limits .1)) (limit-from (s .limitE) (l .limits .2)));
+      limits = limits-from (s .limitA) (s .limitH) (s .limitE) (l .limits);
       lengths = both (leb (length (s .active)) (s .limitA)) _ (le→leb _ _ (l .within 0 (omega arith)))
           (both (leb (length (s .history)) (s .limitH)) _ (le→leb _ _ (l .within 1 (omega arith))) (le→leb _ _ (l .within 2 (omega arith))));
       records = four-from (every (isRecord (capacity s))) s

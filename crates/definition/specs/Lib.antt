@@ -8,6 +8,7 @@ pub mod Reader
 pub mod Parse
 pub mod Key
 pub mod Book
+pub mod Opening
 pub mod BookChainLaws
 pub mod BookSplitLaws
 pub mod BookLegalLaws
@@ -28,6 +29,10 @@ pub mod BookSumLaws
 pub mod BookSoundnessLaws
 pub mod BookCompleteLaws
 pub mod BookReflectLaws
+pub mod BookJudgeLaws
+pub mod BookWalkLaws
+pub mod BookStepLaws
+pub mod BookOpeningLaws
 pub mod Table
 pub mod Chain
 pub mod Alarm
