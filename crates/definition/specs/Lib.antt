@@ -7,6 +7,7 @@ pub mod Value
 pub mod Reader
 pub mod Parse
 pub mod Key
+pub mod KeyLaws
 pub mod Book
 pub mod Opening
 pub mod BookChainLaws

@@ -1,0 +1,43 @@
+-- `put_places` meets its contract.
+use native.Mathlib.Omega.{arith}
+use lib.ListN.{length-append}
+use Rattle.definition.specs.Key.{fedPlaces, optional}
+use Rattle.model.specs.Meaning.{optPart}
+use Rattle.key.proofs.PutLaws.{put-two}
+use Rattle.key.proofs.Room.{option-room, option-wider}
+use borrow.Author.Needs.{needs}
+use Rattle.key.proofs.put_places.Statement.{statement}
+use Rattle.key.proofs.put_places.Tie as tie
+
+put-option-requires : tie.Need-put-option-requires
+put-option-requires c κs =
+    let s = c .before .before .before .args in
+    let w = c .before .before .before .pre .2 in
+    (search needs, search needs, option-wider (s .call .now) (s .p .tenant) (w .tenant))
+
+put-option-requires-2 : tie.Need-put-option-requires-2
+put-option-requires-2 c κs =
+    let s = c .before .before .before .before .before .before .before .args in
+    let w = c .before .before .before .before .before .before .before .pre .2 in
+    (search needs, omega (arith, option-room (s .call .now) 64 (s .p .tenant) (w .tenant)), option-wider (s .call .now) (s .p .slice) (w .slice))
+
+put-option-requires-3 : tie.Need-put-option-requires-3
+put-option-requires-3 c κs =
+    let s = c .before .before .before .before .before .before .before .before .before .before .before .args in
+    let w = c .before .before .before .before .before .before .before .before .before .before .before .pre .2 in
+    (search needs, omega (arith, option-room (s .call .now) 64 (s .p .tenant) (w .tenant), option-room (s .call .now) 64 (s .p .slice) (w .slice)), w .region)
+
+returns : tie.Need-returns
+unfolding fedPlaces
+returns c =
+    let s = c .before .before .before .before .before .before .before .before .before .before .before .before .before .before .args in
+    let w = c .before .before .before .before .before .before .before .before .before .before .before .before .before .before .pre .2 in
+    let t = option-room (s .call .now) 64 (s .p .tenant) (w .tenant) in
+    let l = option-room (s .call .now) 64 (s .p .slice) (w .slice) in
+    let g = option-room (s .call .now) 128 (s .p .region) (w .region) in
+    put-two (c .before .before .before .before .before .before .before .before .before .before .put-option .ensures) (put-two (c .before .before .before .before .before .before .put-option2 .ensures) (c .before .before .put-option3 .ensures) (omega arith)) (omega (arith, length-append (optional (optPart (s .call .now) (s .p .slice))) (optional (optPart (s .call .now) (s .p .region)))))
+
+pub put-places-spec : {M : Type 1} → statement M
+put-places-spec =
+    tie.close
+    (tie.spec put-option-requires put-option-requires-2 put-option-requires-3 (λ c. search needs) returns)

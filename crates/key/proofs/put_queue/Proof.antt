@@ -1,0 +1,38 @@
+use Rattle.octets.specs.PartLaws.{part-rest}
+-- `put_queue` meets its contract.
+use mathlib.Core.Path.{ap, _∙_}
+use lib.ListN.{drop}
+use Rattle.definition.specs.Key.{string}
+use Rattle.definition.specs.KeyLaws.{five-decimal, fiveDigits}
+use Rattle.key.proofs.PutLaws.{put-as, put-string}
+use borrow.Author.Needs.{needs}
+use Rattle.key.proofs.put_queue.Statement.{statement}
+use Rattle.key.proofs.put_queue.Tie as tie
+
+returns : tie.Need-returns
+returns c =
+    let s = c .before .before .before .before .before .before .before .before .args in
+    let u = c .before .before .before .before .before .before .unwritten in
+    put-as (ap string (part-rest (fiveDigits (s .q)) (u .result) ∙ ap (λ k. drop k (fiveDigits (s .q))) (u .ensures) ∙ five-decimal (s .q))) (c .before .before .put-string .ensures)
+
+pub put-queue-spec : {M : Type 1} → statement M
+put-queue-spec =
+    tie.close
+    (tie.spec
+    (λ c. search needs)
+    (λ c. search needs)
+    (λ c. search needs)
+    (λ c. search needs)
+    (λ c. search needs)
+    (λ c. search needs)
+    (λ c. search needs)
+    (λ c. search needs)
+    (λ c. search needs)
+    (λ c. search needs)
+    (λ c κs. search needs)
+    (λ c. search needs)
+    (λ c. search needs)
+    (λ c. search needs)
+    (λ c κs. search needs)
+    (λ c. search needs)
+    returns)

@@ -1,0 +1,178 @@
+// The key of an alarm: the first 16 bytes of SHA-256 over its type, cause, object and places; and its digits.
+use model::AffectedObject;
+use model::OptSpan;
+use model::Places;
+use model::Span;
+ghost use mathlib.Core.Path.{_≡_};
+ghost use mathlib.Core.List.{_++_};
+ghost use Prim.Native.Nat.{_+_, _-_, _*_, _≤_, _<_};
+ghost use lib.ListN.{length};
+ghost use Rattle.octets.specs.Bytes.{splice};
+ghost use Rattle.definition.specs.Limits.{shortLimit, regionLimit};
+ghost use Rattle.definition.specs.Key.{string, optional, decimal, fedObject, fedPlaces, fed, keyOf, hexDigit, hex};
+ghost use Rattle.model.specs.Meaning.{part, optPart, causePart, objectValue, placesValue, keyValue, within, optWithin, causeWithin, objectWithin, PlacesWithin, KeyWithin};
+ghost use Rattle.key.specs.Put.{Put};
+
+// ---- strings and options, encoded as in a call, put into the buffer of what is hashed
+
+fn put_string(buf: &mut [u8], at: usize, s: &[u8]) -> usize
+    requires { ⌜ (length (now buf) ≡ 640) × (at + (4 + length (now s)) ≤ 640) ⌝ }
+    ensures { λ r. ⌜ Put (now (buf .entry)) at (string (now (s .entry))) r (now (buf .exit)) ⌝ }
+{
+    let n = s.len();
+    octets::put32(buf, at, n as u32);
+    let a = at + 4;
+    octets::put_bytes(buf, a, s);
+    a + n
+}
+
+// A part of the call.
+fn put_part(buf: &mut [u8], at: usize, call: &[u8], p: Span) -> usize
+    requires { ⌜ (length (now buf) ≡ 640) × (at + (4 + regionLimit) ≤ 640) × within (now call) regionLimit p ⌝ }
+    ensures { λ r. ⌜ Put (now (buf .entry)) at (string (part (now (call .entry)) p)) r (now (buf .exit)) ⌝ }
+{
+    let a = p.at;
+    let e = a + p.len;
+    put_string(buf, at, &call[a..e])
+}
+
+fn put_option(buf: &mut [u8], at: usize, call: &[u8], p: OptSpan) -> usize
+    requires { ⌜ (length (now buf) ≡ 640) × (at + (5 + regionLimit) ≤ 640) × optWithin (now call) regionLimit p ⌝ }
+    ensures { λ r. ⌜ Put (now (buf .entry)) at (optional (optPart (now (call .entry)) p)) r (now (buf .exit)) ⌝ }
+{
+    let a = at + 1;
+    match p {
+        OptSpan::Absent => {
+            octets::put_byte(buf, at, 0);
+            a
+        }
+        OptSpan::Present(q) => {
+            octets::put_byte(buf, at, 1);
+            put_part(buf, a, call, q)
+        }
+    }
+}
+
+// ---- the affected object
+
+// How many of five decimal digits are not written: no leading zero is, save that of 0.
+fn unwritten(q: u16) -> usize
+    ensures { λ r. ⌜ r ≡ 5 - length (decimal q) ⌝ }
+{
+    if q < 10 {
+        4
+    } else if q / 10 < 10 {
+        3
+    } else if q / 10 / 10 < 10 {
+        2
+    } else if q / 10 / 10 / 10 < 10 {
+        1
+    } else {
+        0
+    }
+}
+
+// The queue, in decimal digits.
+fn put_queue(buf: &mut [u8], at: usize, q: u16) -> usize
+    requires { ⌜ (length (now buf) ≡ 640) × (at + 9 ≤ 640) ⌝ }
+    ensures { λ r. ⌜ Put (now (buf .entry)) at (string (decimal q)) r (now (buf .exit)) ⌝ }
+{
+    let digits = [
+        48 + (q / 10 / 10 / 10 / 10 % 10) as u8,
+        48 + (q / 10 / 10 / 10 % 10) as u8,
+        48 + (q / 10 / 10 % 10) as u8,
+        48 + (q / 10 % 10) as u8,
+        48 + (q % 10) as u8,
+    ];
+    let a = unwritten(q);
+    put_string(buf, at, &digits[a..])
+}
+
+// A kind's tag and its one string.
+fn put_single(buf: &mut [u8], at: usize, tag: &[u8], call: &[u8], a: Span) -> usize
+    requires { ⌜ (length (now buf) ≡ 640) × (at ≤ 168) × (length (now tag) ≤ 14) × within (now call) shortLimit a ⌝ }
+    ensures { λ r. ⌜ Put (now (buf .entry)) at (string (now (tag .entry)) ++ string (part (now (call .entry)) a)) r (now (buf .exit)) ⌝ }
+{
+    let n = put_string(buf, at, tag);
+    put_part(buf, n, call, a)
+}
+
+// A kind's tag and its two strings.
+fn put_pair(buf: &mut [u8], at: usize, tag: &[u8], call: &[u8], a: Span, b: Span) -> usize
+    requires { ⌜ (length (now buf) ≡ 640) × (at ≤ 168) × (length (now tag) ≤ 14) × within (now call) shortLimit a × within (now call) shortLimit b ⌝ }
+    ensures { λ r. ⌜ Put (now (buf .entry)) at (string (now (tag .entry)) ++ string (part (now (call .entry)) a) ++ string (part (now (call .entry)) b)) r (now (buf .exit)) ⌝ }
+{
+    let n = put_single(buf, at, tag, call, a);
+    put_part(buf, n, call, b)
+}
+
+fn put_object(buf: &mut [u8], at: usize, call: &[u8], o: AffectedObject) -> usize
+    requires { ⌜ (length (now buf) ≡ 640) × (at ≤ 168) × objectWithin (now call) o ⌝ }
+    ensures { λ r. ⌜ Put (now (buf .entry)) at (fedObject (objectValue (now (call .entry)) o)) r (now (buf .exit)) ⌝ }
+{
+    match o {
+        AffectedObject::NfInstance { kind, instance } => put_pair(
+            buf,
+            at,
+            b"NfInstance",
+            call,
+            kind,
+            instance,
+        ),
+        AffectedObject::Interface { nf, name } => put_pair(buf, at, b"Interface", call, nf, name),
+        AffectedObject::Peer { nf, peer_id } => put_pair(buf, at, b"Peer", call, nf, peer_id),
+        AffectedObject::SessionStore { nf, shard } => {
+            let n = put_single(buf, at, b"SessionStore", call, nf);
+            put_option(buf, n, call, shard)
+        }
+        AffectedObject::Slice { snssai } => put_single(buf, at, b"Slice", call, snssai),
+        AffectedObject::Tenant { tenant } => put_single(buf, at, b"Tenant", call, tenant),
+        AffectedObject::Certificate { key_id } => put_single(buf, at, b"Certificate", call, key_id),
+        AffectedObject::DataPlaneQueue {
+            nf,
+            interface,
+            queue,
+        } => {
+            let n = put_pair(buf, at, b"DataPlaneQueue", call, nf, interface);
+            put_queue(buf, n, queue)
+        }
+    }
+}
+
+// ---- tenant, slice and region
+
+fn put_places(buf: &mut [u8], at: usize, call: &[u8], p: Places) -> usize
+    requires { ⌜ (length (now buf) ≡ 640) × (at ≤ 331) × PlacesWithin (now call) p ⌝ }
+    ensures { λ r. ⌜ Put (now (buf .entry)) at (fedPlaces (placesValue (now (call .entry)) p)) r (now (buf .exit)) ⌝ }
+{
+    let tenant = p.tenant;
+    let slice = p.slice;
+    let region = p.region;
+    let n = put_option(buf, at, call, tenant);
+    let m = put_option(buf, n, call, slice);
+    put_option(buf, m, call, region)
+}
+
+// ---- the key's digits
+
+fn hex_digit(n: u8) -> u8
+    requires { ⌜ n < 16 ⌝ }
+    ensures { λ r. ⌜ r ≡ hexDigit n ⌝ }
+{
+    if n < 10 { 48 + n } else { 87 + n }
+}
+
+// The key's hexadecimal digits go into the answer at a place.
+pub fn put_hex(answer: &mut [u8], at: usize, key: &[u8])
+    requires { ⌜ at + 2 * length (now key) ≤ length (now answer) ⌝ }
+    ensures { λ _. ⌜ now (answer .exit) ≡ splice (now (answer .entry)) at (hex (now (key .entry))) ⌝ }
+{
+    let mut i = 0;
+    while i < key.len() {
+        let b = key[i];
+        let p = at + 2 * i;
+        answer[p] = hex_digit(b / 16);
+        answer[p + 1] = hex_digit(b % 16);
+        i += 1;
+    }
+}
