@@ -69,3 +69,4 @@ pub mod TwinLaws
 pub mod TestLaws
 pub mod StationLaws
 pub mod SoundLaws
+pub mod MoveLaws

@@ -159,6 +159,7 @@ pub record Holds (b : Bytes) : Type 0 where
   pub legal : LegalStation (station b)
   pub bytes : encode (station b) ≡ b
   pub book : L.Sound b
+  pub read : bookOf (station b) ≡ readBook b
 
 pub sound-holds : (b : Bytes) → T (sound b) → Holds b
 unfolding sound station encode
@@ -169,6 +170,7 @@ sound-holds b h =
       legal = record { chains = station-legal (readBook b) (k .legal); fields = fields-read (readBook b) r };
       bytes = ap bookBytes (book-back (readBook b) r (k .legal .blank)) ∙ k .bytes;
       book = k;
+      read = book-back (readBook b) r (k .legal .blank);
     }
 
 -- a legal station's bytes hold it
