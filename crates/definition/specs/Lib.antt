@@ -2,7 +2,9 @@ pub mod Utf8
 pub mod Utf8Laws
 pub mod Limits
 pub mod White
+pub mod WhiteLaws
 pub mod Cause
+pub mod CauseLaws
 pub mod Value
 pub mod Reader
 pub mod Parse

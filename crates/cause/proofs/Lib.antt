@@ -1,0 +1,4 @@
+pub mod Places
+pub mod Trim
+pub mod Dotted
+pub mod Ways

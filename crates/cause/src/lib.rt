@@ -1,0 +1,96 @@
+// The cause of an alarm: one of 21 names, or `other:` and a dotted name.
+ghost use mathlib.Core.Path.{_≡_};
+ghost use mathlib.Core.Bool.{false};
+ghost use Rattle.definition.specs.Cause.{names, oneOf, dotted, causeOf, stored};
+ghost use Rattle.cause.specs.Meaning.{causeValue, causeFits};
+
+mod names;
+mod white;
+
+// A cause: a name by its place, or the part of the string that is the trimmed name after `other:`.
+pub enum Cause {
+    Name(usize),
+    Other { at: usize, len: usize },
+    No,
+}
+
+// Whether s is a dotted name.
+fn is_dotted(s: &[u8]) -> bool
+    ensures { λ r. ⌜ r ≡ dotted (now (s .entry)) ⌝ }
+{
+    let mut i = 0;
+    let mut open = false;
+    let mut dot = false;
+    while i < s.len() {
+        if s[i] == b'.' {
+            if !open {
+                return false;
+            }
+            open = false;
+            dot = true;
+            i += 1;
+        } else {
+            if white::space_len(&s[i..]) != 0 {
+                return false;
+            }
+            open = true;
+            i += 1;
+        }
+    }
+    open && dot
+}
+
+// The cause that s is.
+pub fn cause_of(s: &[u8]) -> Cause
+    ensures { λ r. ⌜ (causeValue (now (s .entry)) r ≡ causeOf (now (s .entry))) × causeFits (now (s .entry)) r ⌝ }
+{
+    match names::name(s) {
+        names::Named::At(k) => Cause::Name(k),
+        names::Named::Nothing => other(s),
+    }
+}
+
+// The cause that s is, where it is none of the names.
+fn other(s: &[u8]) -> Cause
+    requires { ⌜ oneOf names (now s) ≡ false ⌝ }
+    ensures { λ r. ⌜ (causeValue (now (s .entry)) r ≡ causeOf (now (s .entry))) × causeFits (now (s .entry)) r ⌝ }
+{
+    if !octets::starts(s, b"other:") {
+        return Cause::No;
+    }
+    if s.len() < 6 {
+        return Cause::No;
+    }
+    let a = white::trim_start(&s[6..]) + 6;
+    let n = white::trim_end(&s[a..]);
+    let e = a + n;
+    if is_dotted(&s[a..e]) {
+        Cause::Other { at: a, len: n }
+    } else {
+        Cause::No
+    }
+}
+
+// Whether s is a cause in its stored form.
+pub fn is_stored(s: &[u8]) -> bool
+    ensures { λ r. ⌜ r ≡ stored (now (s .entry)) ⌝ }
+{
+    match names::name(s) {
+        names::Named::At(_) => true,
+        names::Named::Nothing => other_stored(s),
+    }
+}
+
+// Whether s is such a cause, where it is none of the names.
+fn other_stored(s: &[u8]) -> bool
+    requires { ⌜ oneOf names (now s) ≡ false ⌝ }
+    ensures { λ r. ⌜ r ≡ stored (now (s .entry)) ⌝ }
+{
+    if !octets::starts(s, b"other:") {
+        return false;
+    }
+    if s.len() < 6 {
+        return false;
+    }
+    is_dotted(&s[6..])
+}
