@@ -72,3 +72,5 @@ pub mod TestLaws
 pub mod StationLaws
 pub mod SoundLaws
 pub mod MoveLaws
+pub mod Lists
+pub mod Mask
