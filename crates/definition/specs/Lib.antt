@@ -74,3 +74,4 @@ pub mod SoundLaws
 pub mod MoveLaws
 pub mod Lists
 pub mod Mask
+pub mod HistoryLaws
