@@ -4,16 +4,17 @@ use mathlib.Core.Bool.{Bool, true, false, _&&_}
 use mathlib.Core.List.{List, [], _∷_, _++_}
 use mathlib.Core.Option.{Option, none, some}
 use Prim.Native.Nat.{ℕ, suc, _+_, _-_, _^_, _≤_, _<_}
-use native.Mathlib.Nat.{zero-add}
+use native.Mathlib.Nat.{add-zero, zero-add, add-sub-cancel-left}
 use native.Mathlib.Omega.{arith}
 use borrow.Author.Tests.{eq-eqb, ne-eqb, lt-ltb, le-leb, ltb-true, leb-true, eqb-true}
 use lib.Dec.{T, leb}
 use lib.ListN.{length, take, drop, getD, length-append, length-take, length-drop, take-append-drop}
-use lib.Seq.{take-at, drop-at, length-take-le}
-use Rattle.octets.specs.Bytes.{Bytes, same, zeros, pad, blank, digits, value}
+use lib.Seq.{take-at, drop-at, length-take-le, take-all, getD-take, getD-drop}
+use Rattle.octets.specs.Bytes.{Bytes, same, zeros, pad, blank, digits, value, numberAt}
 use Rattle.octets.specs.BoolLaws.{and-false, and-true, both, both-left, both-right, holds, true-holds}
 use Rattle.octets.specs.SameLaws.{same-append, same-refl, same→eq, eq→same, ne→same}
-use Rattle.octets.specs.NumberLaws.{Octets, length-zeros, length-pad, pad-fits, take-pad, pad-whole, length-digits, value-digits, digits-value, value-lt}
+use Rattle.octets.specs.PartLaws.{part-length, part-drop, part-front}
+use Rattle.octets.specs.NumberLaws.{Octets, length-zeros, length-pad, pad-fits, take-pad, pad-whole, length-digits, value-digits, digits-value, value-lt, octets-take, octets-drop}
 use Rattle.definition.specs.Slot.{Slot, Field, sound, raw, spare, upTo, number, string, option, cut, allOf, widths, pieces, tests, fields}
 use Rattle.definition.specs.JoinLaws.{Fits, length-join, cut-join, matches, same-join, zipped, all-zipped}
 
@@ -174,3 +175,46 @@ sound-fields fs of b fit h =
     let x = of ps in
     ap (λ (y : Bool). allOf (tests fs x) && y) (same-join 0 (widths fs) (pieces fs x) b (fit x) (h ∙ sym (zero-add _)))
     ∙ all-zipped (tests fs x) (matches (pieces fs x) ps)
+
+-- ---- slots in longer bytes
+
+pub part-first : (p : Bytes) (at n : ℕ) → 0 < n → getD (take n (drop at p)) 0 0 ≡ getD p at 0
+part-first p at n h = getD-take n (drop at p) 0 0 h ∙ getD-drop at p 0 0 ∙ ap (λ (k : ℕ). getD p k 0) (add-zero at)
+
+-- a part that is lent from a place to n bytes behind it
+pub part-lent : (p : Bytes) (at n : ℕ) → take (at + n - at) (drop at p) ≡ take n (drop at p)
+part-lent p at n = rw add-sub-cancel-left
+
+pub octets-part : (p : Bytes) (at n : ℕ) → Octets p → Octets (take n (drop at p))
+octets-part p at n o = octets-take n (drop at p) (octets-drop at p o)
+
+module _ (n : ℕ) (good : Bytes → Bool) (p : Bytes) (at : ℕ) where
+  stated : value (take 2 (take (2 + n) (drop at p))) ≡ numberAt 2 p at
+  stated = ap value (part-front p at 2 (2 + n) (omega arith))
+
+  -- the string that is read: as long as is said, or all of the room
+  get-string : string n good .get (take (2 + n) (drop at p)) ≡ take (numberAt 2 p at) (take n (drop (at + 2) p))
+  get-string = rw (stated, part-drop p at 2 n)
+
+  pub string-get : numberAt 2 p at ≤ n → string n good .get (take (2 + n) (drop at p)) ≡ take (numberAt 2 p at) (drop (at + 2) p)
+  string-get h = get-string ∙ part-front p (at + 2) (numberAt 2 p at) n h
+
+  pub string-all : n ≤ numberAt 2 p at → string n good .get (take (2 + n) (drop at p)) ≡ take n (drop (at + 2) p)
+  string-all h = get-string ∙ take-all (numberAt 2 p at) (take n (drop (at + 2) p)) (omega (arith, length-take n (drop (at + 2) p)))
+
+  -- it is good, and zeros follow
+  pub string-sound :
+      at + (2 + n) ≤ length p → Octets p → numberAt 2 p at ≤ n →
+      sound (string n good) (take (2 + n) (drop at p)) ≡ good (take (numberAt 2 p at) (drop (at + 2) p)) && blank (take (n - numberAt 2 p at) (drop (at + 2 + numberAt 2 p at) p))
+  string-sound h o k =
+      let m = numberAt 2 p at in
+      let b = take (2 + n) (drop at p) in
+      let d : digits 2 (value (take 2 b)) ≡ take 2 b = digits-value 2 (take 2 b) (ap length (part-front p at 2 (2 + n) (omega arith)) ∙ part-length p at 2 (omega arith)) (octets-take 2 b (octets-part p at (2 + n) o)) in
+      let e : n ≡ m + (n - m) = omega arith in
+      string-fits n good b (part-length p at (2 + n) h) d (rw stated k)
+      ∙ rw (stated, part-drop p at 2 n, part-front p (at + 2) m n k)
+      (ap (λ (x : Bytes). good (take m (drop (at + 2) p)) && blank x) (ap (λ (w : ℕ). drop m (take w (drop (at + 2) p))) e ∙ part-drop p (at + 2) m (n - m)))
+
+  -- its length is above the room
+  pub string-unsound : at + (2 + n) ≤ length p → n < 65536 → n < numberAt 2 p at → sound (string n good) (take (2 + n) (drop at p)) ≡ false
+  string-unsound h l k = string-long n good (take (2 + n) (drop at p)) (part-length p at (2 + n) h) l (rw stated k)

@@ -1,0 +1,235 @@
+// The fields of an alarm in the payload of its record, the bytes behind the next index: read, compared and changed in place.
+ghost use mathlib.Core.Path.{_≡_};
+ghost use mathlib.Core.List.{[], _∷_};
+ghost use mathlib.Core.Option.{none, some};
+ghost use Prim.Native.Nat.{_+_, _≤_};
+ghost use lib.Dec.{T};
+ghost use lib.ListN.{length, take, drop};
+ghost use Rattle.octets.specs.Bytes.{zeros, digits, splice};
+ghost use Rattle.definition.specs.Limits.{textLimit, detailsLimit};
+ghost use Rattle.definition.specs.Alarm.{sameIdentity};
+ghost use Rattle.definition.specs.Book.{payloadWidth};
+ghost use Rattle.definition.specs.Slot.{string, stringBytes};
+ghost use Rattle.definition.specs.Record.{anyBytes, lastState, readAlarm, soundAlarm};
+ghost use Rattle.record.specs.Change.{Becomes, withSeverity, withState, withUpdated, withCleared, withText, withDetails};
+use model::Record;
+
+// Where the slots of an alarm start.
+pub struct AlarmAt {}
+
+impl AlarmAt {
+    pub const KEY: usize = 0;
+
+    pub const SEVERITY: usize = 16;
+
+    pub const STATE: usize = 17;
+
+    pub const RAISED_AT: usize = 18;
+
+    pub const UPDATED_AT: usize = 26;
+
+    pub const CLEARED_AT: usize = 34;
+
+    pub const ID: usize = 43;
+
+    pub const TYPE: usize = 109;
+
+    pub const CAUSE: usize = 175;
+
+    pub const OBJECT: usize = 273;
+
+    pub const TENANT: usize = 409;
+
+    pub const SLICE: usize = 476;
+
+    pub const REGION: usize = 543;
+
+    pub const TEXT: usize = 674;
+
+    pub const DETAILS: usize = 932;
+
+    pub const SPARE: usize = 1447;
+}
+
+// Where the slots of an event start.
+pub struct EventAt {}
+
+impl EventAt {
+    pub const ACTION: usize = 0;
+
+    pub const OUTCOME: usize = 1;
+
+    pub const ID: usize = 10;
+
+    pub const TYPE: usize = 76;
+
+    pub const CAUSE: usize = 142;
+
+    pub const PRINCIPAL: usize = 240;
+
+    pub const TENANT: usize = 306;
+
+    pub const REASON: usize = 373;
+
+    pub const SCOPE: usize = 631;
+
+    pub const CORRELATION: usize = 698;
+
+    pub const SPARE: usize = 765;
+}
+
+// ---- fields read
+
+pub fn key(p: &[u8]) -> &[u8]
+    requires { ⌜ length (now p) ≡ payloadWidth ⌝ }
+    ensures { λ r. ⌜ now r ≡ readAlarm (now (p .entry)) .key ⌝ }
+{
+    &p[AlarmAt::KEY..AlarmAt::SEVERITY]
+}
+
+pub fn severity(p: &[u8]) -> u8
+    requires { ⌜ length (now p) ≡ payloadWidth ⌝ }
+    ensures { λ r. ⌜ r ≡ readAlarm (now (p .entry)) .severity ⌝ }
+{
+    p[AlarmAt::SEVERITY]
+}
+
+pub fn state(p: &[u8]) -> u8
+    requires { ⌜ length (now p) ≡ payloadWidth ⌝ }
+    ensures { λ r. ⌜ r ≡ readAlarm (now (p .entry)) .state ⌝ }
+{
+    p[AlarmAt::STATE]
+}
+
+pub fn raised_at(p: &[u8]) -> u64
+    requires { ⌜ length (now p) ≡ payloadWidth ⌝ }
+    ensures { λ r. ⌜ r ≡ readAlarm (now (p .entry)) .raisedAt ⌝ }
+{
+    octets::get64(p, AlarmAt::RAISED_AT)
+}
+
+pub fn updated_at(p: &[u8]) -> u64
+    requires { ⌜ length (now p) ≡ payloadWidth ⌝ }
+    ensures { λ r. ⌜ r ≡ readAlarm (now (p .entry)) .updatedAt ⌝ }
+{
+    octets::get64(p, AlarmAt::UPDATED_AT)
+}
+
+// The string in a slot; all of its room where the length is above it.
+fn string_of(p: &[u8], at: usize, n: usize) -> &[u8]
+    requires { ⌜ (length (now p) ≡ payloadWidth) × (at + (2 + n) ≤ payloadWidth) ⌝ }
+    ensures { λ r. ⌜ now r ≡ string n anyBytes .get (take (2 + n) (drop at (now (p .entry)))) ⌝ }
+{
+    let m = octets::get16(p, at) as usize;
+    let a = at + 2;
+    if n < m {
+        let e = a + n;
+        return &p[a..e];
+    }
+    let e = a + m;
+    &p[a..e]
+}
+
+pub fn id(p: &[u8]) -> &[u8]
+    requires { ⌜ length (now p) ≡ payloadWidth ⌝ }
+    ensures { λ r. ⌜ now r ≡ readAlarm (now (p .entry)) .id ⌝ }
+{
+    string_of(p, AlarmAt::ID, Record::SHORT)
+}
+
+pub fn cause(p: &[u8]) -> &[u8]
+    requires { ⌜ length (now p) ≡ payloadWidth ⌝ }
+    ensures { λ r. ⌜ now r ≡ readAlarm (now (p .entry)) .about .cause ⌝ }
+{
+    string_of(p, AlarmAt::CAUSE, Record::CAUSE)
+}
+
+// Whether two sound alarms are the same to history.
+pub fn same_alarm(p: &[u8], q: &[u8]) -> bool
+    requires { ⌜ (length (now p) ≡ payloadWidth) × (length (now q) ≡ payloadWidth) × T (soundAlarm lastState (now p)) × T (soundAlarm lastState (now q)) ⌝ }
+    ensures { λ r. ⌜ r ≡ sameIdentity (readAlarm (now (p .entry))) (readAlarm (now (q .entry))) ⌝ }
+{
+    octets::equal(
+        &p[AlarmAt::SEVERITY..AlarmAt::RAISED_AT],
+        &q[AlarmAt::SEVERITY..AlarmAt::RAISED_AT],
+    )
+        & octets::equal(
+            &p[AlarmAt::ID..AlarmAt::TEXT],
+            &q[AlarmAt::ID..AlarmAt::TEXT],
+        )
+}
+
+// ---- fields changed
+
+// The slot of a string of at most n bytes.
+fn put_string(p: &mut [u8], at: usize, n: usize, s: &[u8])
+    requires { ⌜ (at + (2 + n) ≤ length (now p)) × (length (now s) ≤ n) × (n ≤ detailsLimit) ⌝ }
+    ensures { λ _. ⌜ now (p .exit) ≡ splice (now (p .entry)) at (stringBytes n (now (s .entry))) ⌝ }
+{
+    let m = s.len();
+    octets::put16(p, at, m as u16);
+    let a = at + 2;
+    octets::put_bytes(p, a, s);
+    let b = a + m;
+    octets::put_zeros(p, b, n - m);
+}
+
+// The slot of an optional string that is there.
+fn put_some(p: &mut [u8], at: usize, n: usize, s: &[u8])
+    requires { ⌜ (at + (3 + n) ≤ length (now p)) × (length (now s) ≤ n) × (n ≤ detailsLimit) ⌝ }
+    ensures { λ _. ⌜ now (p .exit) ≡ splice (now (p .entry)) at (1 ∷ stringBytes n (now (s .entry))) ⌝ }
+{
+    octets::put_byte(p, at, 1);
+    let a = at + 1;
+    put_string(p, a, n, s);
+}
+
+pub fn set_severity(p: &mut [u8], v: u8)
+    requires { ⌜ length (now p) ≡ payloadWidth ⌝ }
+    ensures { λ _. ⌜ Becomes (withSeverity v) 16 (v ∷ []) (now (p .entry)) (now (p .exit)) ⌝ }
+{
+    octets::put_byte(p, AlarmAt::SEVERITY, v);
+}
+
+pub fn set_state(p: &mut [u8], v: u8)
+    requires { ⌜ length (now p) ≡ payloadWidth ⌝ }
+    ensures { λ _. ⌜ Becomes (withState v) 17 (v ∷ []) (now (p .entry)) (now (p .exit)) ⌝ }
+{
+    octets::put_byte(p, AlarmAt::STATE, v);
+}
+
+pub fn set_updated(p: &mut [u8], t: u64)
+    requires { ⌜ length (now p) ≡ payloadWidth ⌝ }
+    ensures { λ _. ⌜ Becomes (withUpdated t) 26 (digits 8 t) (now (p .entry)) (now (p .exit)) ⌝ }
+{
+    octets::put64(p, AlarmAt::UPDATED_AT, t);
+}
+
+pub fn set_cleared(p: &mut [u8], t: u64)
+    requires { ⌜ length (now p) ≡ payloadWidth ⌝ }
+    ensures { λ _. ⌜ Becomes (withCleared t) 34 (1 ∷ digits 8 t) (now (p .entry)) (now (p .exit)) ⌝ }
+{
+    octets::put_byte(p, AlarmAt::CLEARED_AT, 1);
+    octets::put64(p, AlarmAt::CLEARED_AT + 1, t);
+}
+
+pub fn set_text(p: &mut [u8], s: &[u8])
+    requires { ⌜ (length (now p) ≡ payloadWidth) × (length (now s) ≤ textLimit) ⌝ }
+    ensures { λ _. ⌜ Becomes (withText (now (s .entry))) 674 (stringBytes textLimit (now (s .entry))) (now (p .entry)) (now (p .exit)) ⌝ }
+{
+    put_string(p, AlarmAt::TEXT, Record::TEXT, s);
+}
+
+pub fn set_details(p: &mut [u8], s: &[u8])
+    requires { ⌜ (length (now p) ≡ payloadWidth) × (length (now s) ≤ detailsLimit) ⌝ }
+    ensures { λ _. ⌜ Becomes (withDetails (some (now (s .entry)))) 932 (1 ∷ stringBytes detailsLimit (now (s .entry))) (now (p .entry)) (now (p .exit)) ⌝ }
+{
+    put_some(p, AlarmAt::DETAILS, Record::DETAILS, s);
+}
+
+pub fn no_details(p: &mut [u8])
+    requires { ⌜ length (now p) ≡ payloadWidth ⌝ }
+    ensures { λ _. ⌜ Becomes (withDetails none) 932 (zeros 515) (now (p .entry)) (now (p .exit)) ⌝ }
+{
+    octets::put_zeros(p, AlarmAt::DETAILS, 3 + Record::DETAILS);
+}
