@@ -41,6 +41,9 @@ module _ (k : ℕ) (h : k < 21) where
   pub name-length : length (getD names k []) ≡ getD starts (k + 1) 0 - getD starts k 0
   name-length = eqb→eq _ _ (on-range (λ (m : ℕ). eqb (length (getD names m [])) (getD starts (m + 1) 0 - getD starts m 0)) 21 0 tt k (omega arith) (omega arith))
 
+  pub name-fits : getD starts (k + 1) 0 - getD starts k 0 ≤ 28
+  name-fits = leb→le _ _ (on-range (λ (m : ℕ). leb (getD starts (m + 1) 0 - getD starts m 0) 28) 21 0 tt k (omega arith) (omega arith))
+
   pub other-length : (s : Bytes) → (length s ≡ getD starts (k + 1) 0 - getD starts k 0 → ⊥) → false ≡ same (getD names k []) s
   other-length s n = sym (same-lengths (getD names k []) s (λ q. n (sym q ∙ name-length)))
 

@@ -7,6 +7,8 @@ ghost use Rattle.cause.specs.Meaning.{causeValue, causeFits};
 mod names;
 mod white;
 
+pub use names::put_name;
+
 // A cause: a name by its place, or the part of the string that is the trimmed name after `other:`.
 pub enum Cause {
     Name(usize),

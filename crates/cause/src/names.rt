@@ -1,9 +1,9 @@
 // The 21 names of causes, by their place.
 ghost use mathlib.Core.Path.{_≡_};
 ghost use mathlib.Core.List.{[]};
-ghost use Prim.Native.Nat.{_<_, _≤_, _-_};
+ghost use Prim.Native.Nat.{_+_, _-_, _≤_, _<_};
 ghost use lib.ListN.{getD, length, take, drop};
-ghost use Rattle.octets.specs.Bytes.{same};
+ghost use Rattle.octets.specs.Bytes.{same, splice};
 ghost use Rattle.definition.specs.Cause.{names};
 ghost use Rattle.cause.specs.Meaning.{named};
 
@@ -80,4 +80,24 @@ pub fn name(s: &[u8]) -> Named
         k += 1;
     }
     Named::Nothing
+}
+
+// Writes the name at k into buf from at on, and answers where it ends.
+pub fn put_name(buf: &mut [u8], at: usize, k: usize) -> usize
+    requires { ⌜ (k < 21) × (at + 28 ≤ length (now buf)) ⌝ }
+    ensures { λ r.
+        ⌜ (r ≡ at + length (getD names k [])) × (now (buf .exit) ≡ splice (now (buf .entry)) at (getD names k [])) ⌝ }
+{
+    put_part(buf, at, &NAMES, STARTS[k], STARTS[k + 1])
+}
+
+// Writes the bytes of all from a to e.
+fn put_part(buf: &mut [u8], at: usize, all: &[u8], a: usize, e: usize) -> usize
+    requires { ⌜ (a ≤ e) × (e ≤ length (now all)) × (at + (e - a) ≤ length (now buf)) ⌝ }
+    ensures { λ r.
+        ⌜ (r ≡ at + (e - a))
+        × (now (buf .exit) ≡ splice (now (buf .entry)) at (take (e - a) (drop a (now (all .entry))))) ⌝ }
+{
+    octets::put_bytes(buf, at, &all[a..e]);
+    at + (e - a)
 }
