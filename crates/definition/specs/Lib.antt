@@ -75,3 +75,4 @@ pub mod MoveLaws
 pub mod Lists
 pub mod Mask
 pub mod HistoryLaws
+pub mod ReplyLaws
