@@ -76,3 +76,5 @@ pub mod Lists
 pub mod Mask
 pub mod HistoryLaws
 pub mod ReplyLaws
+pub mod MaskLaws
+pub mod MaskAnswerLaws
