@@ -1,18 +1,23 @@
 -- Laws of causes and of their stored form.
 use mathlib.Core.Path.{_≡_, refl, sym, ap, _∙_, subst}
 use mathlib.Core.Bool.{Bool, true, false, cond, _&&_, not}
-use mathlib.Core.List.{List, [], _∷_, _++_}
-use mathlib.Core.Option.{Option, none, some}
-use Prim.Native.Nat.{ℕ}
+use mathlib.Core.List.{[], _∷_, _++_}
+use mathlib.Core.Option.{none, some}
+use Prim.Native.Nat.{ℕ, zero, suc, _≤_}
 use native.Mathlib.Omega.{arith}
-use lib.Dec.{T}
-use lib.ListN.{length, drop}
+use borrow.Author.Tests.{ltb-true}
+use lib.Dec.{T, ltb}
+use lib.ListN.{length, drop, length-drop}
 use lib.Seq.{drop-append-seam}
-use Rattle.octets.specs.Bytes.{Bytes, begins, same}
+use Rattle.octets.specs.Bytes.{Bytes, begins}
 use Rattle.octets.specs.BoolLaws.{both-left, both-right, holds, true-holds, same-tests}
 use Rattle.octets.specs.SameLaws.{same-refl, same→eq, eq→same}
+use Rattle.octets.specs.NumberLaws.{Octets, octets-drop}
+use Rattle.definition.specs.Utf8.{leads, follows, utf8From, utf8}
+use Rattle.definition.specs.Utf8Laws.{plain, utf8-append}
 use Rattle.definition.specs.White.{trim, hasSpace}
-use Rattle.definition.specs.WhiteLaws.{begins-split, trim-none}
+use Rattle.definition.specs.WhiteLaws.{begins-split, begins-le, trim-none}
+use Rattle.definition.specs.TrimLaws.{trim-le, trim-octets, trim-utf8}
 use Rattle.definition.specs.Cause.{names, oneOf, segments, hasDot, allFull, dotted, other, otherOf, causeOf, sameAs, stored}
 
 -- ---- what is stored
@@ -92,3 +97,30 @@ stored-dotted u d = go (oneOf names (other ++ u)) refl
 pub cause-stored : (t c : Bytes) → causeOf t ≡ some c → stored c ≡ true
 cause-stored t c e =
     by-cause (λ (x : Bytes). stored x ≡ true) t c e (stored-name t) (λ b d. stored-dotted (trim (drop 6 t)) d)
+
+-- it is no longer than the cause
+pub cause-length : (t c : Bytes) → causeOf t ≡ some c → length c ≤ length t
+cause-length t c e =
+    by-cause (λ (x : Bytes). length x ≤ length t) t c e (λ n. omega arith)
+    (λ b d. omega (arith, trim-le (drop 6 t), length-drop 6 t, begins-le other t b))
+
+-- its bytes are bytes where the cause's are
+behind-plain : (p u : Bytes) → T (plain p) → Octets u → Octets (p ++ u)
+unfolding plain
+behind-plain [] u t h i = h i
+behind-plain (b ∷ p) u t h zero = let k = ltb-true b 128 (holds _ (both-left (ltb b 128) (plain p) t)) in omega arith
+behind-plain (b ∷ p) u t h (suc i) = behind-plain p u (both-right (ltb b 128) (plain p) t) h i
+
+pub cause-octets : (t c : Bytes) → causeOf t ≡ some c → Octets t → Octets c
+unfolding plain
+cause-octets t c e h =
+    by-cause Octets t c e (λ n. h) (λ b d. behind-plain other (trim (drop 6 t)) tt (trim-octets (drop 6 t) (octets-drop 6 t h)))
+
+-- it is UTF-8 where the cause is
+pub cause-utf8 : (t c : Bytes) → causeOf t ≡ some c → utf8 t ≡ true → utf8 c ≡ true
+unfolding utf8 utf8From leads follows
+cause-utf8 t c e h =
+    by-cause (λ (x : Bytes). utf8 x ≡ true) t c e (λ n. h)
+    (λ b d.
+    let r : utf8 (drop 6 t) ≡ true = sym (utf8-append other (drop 6 t) refl) ∙ ap utf8 (sym (begins-split other t b)) ∙ h in
+    utf8-append other (trim (drop 6 t)) refl ∙ trim-utf8 (drop 6 t) r)

@@ -3,6 +3,7 @@ pub mod Utf8Laws
 pub mod Limits
 pub mod White
 pub mod WhiteLaws
+pub mod TrimLaws
 pub mod Cause
 pub mod CauseLaws
 pub mod Value
@@ -37,6 +38,7 @@ pub mod BookWalkLaws
 pub mod BookStepLaws
 pub mod BookOpeningLaws
 pub mod Table
+pub mod TableCauses
 pub mod Chain
 pub mod Alarm
 pub mod Station
