@@ -80,3 +80,8 @@ pub mod HistoryLaws
 pub mod ReplyLaws
 pub mod MaskLaws
 pub mod MaskAnswerLaws
+pub mod Twins
+pub mod TwinReadLaws
+pub mod KindLaws
+pub mod Claim
+pub mod ClaimLaws

@@ -4,12 +4,13 @@ use mathlib.Core.Path.{_≡_, refl, sym, _∙_}
 use lib.ListN.{length}
 use Rattle.octets.specs.Bytes.{Bytes, splice}
 use Rattle.octets.specs.SpliceLaws.{splice-none}
-use Rattle.definition.specs.Station.{Step, done, stopped}
+use Rattle.definition.specs.Station.{Step, stopped}
 use Rattle.definition.specs.Answer.{Answer, answerBytes}
-use Rattle.definition.specs.Sound.{encode, station}
+use Rattle.definition.specs.Sound.{station}
 use Rattle.definition.specs.SoundLaws.{sound-holds}
 use Rattle.definition.specs.MoveLaws.{Does}
-use Rattle.definition.specs.Lists.{Reply, replyOf}
+use Rattle.definition.specs.Lists.{replyOf}
+pub use Rattle.definition.specs.Claim.{Gives}
 
 -- the step m is done from the register b to b′, and its answer stands at the front of the answer slice, which was a and is a′; n is its length
 pub record Answers (m : Step Answer) (b b′ a a′ : Bytes) (n : ℕ) : Type 0 where
@@ -23,13 +24,6 @@ pub record Refuses (m : Step Answer) (b b′ a a′ : Bytes) (k : ℕ) : Type 0 
   pub stops : m (station b) ≡ stopped k
   pub register : b′ ≡ b
   pub answer : a′ ≡ a
-
--- number, length, answer slice and register are those of a reply
-pub record Gives (r : Reply) (a : Bytes) (number n : ℕ) (a′ b′ : Bytes) : Type 0 where
-  pub number-is : number ≡ r .number
-  pub length-is : n ≡ r .length
-  pub answer-is : a′ ≡ splice a 0 (r .answer)
-  pub register-is : b′ ≡ r .register
 
 pub answers-give : (m : Step Answer) (b b′ a a′ : Bytes) (n : ℕ) → Answers m b b′ a a′ n → Gives (replyOf b (m (station b))) a 0 n a′ b′
 answers-give m b b′ a a′ n x =

@@ -1,0 +1,91 @@
+-- Demand 3: "one claim on whole lists, not one for each call". What opening and calls returned and left, and what is claimed of it.
+use Prim.Native.Nat.{ℕ}
+use mathlib.Core.Path.{_≡_}
+use mathlib.Core.List.{List, [], _∷_, map}
+use lib.ListN.{length, take, getD}
+use Rattle.octets.specs.Bytes.{Bytes, splice}
+use Rattle.octets.specs.NumberLaws.{Octets}
+use Rattle.definition.specs.Opening.{opened, openOf}
+use Rattle.definition.specs.Lists.{Reply, stepOf, run}
+use Rattle.definition.specs.Mask.{maskRegister, maskAnswer}
+use Rattle.definition.specs.Twins.{TwinLists}
+
+-- ---- what was returned and left
+
+-- "Fresh means as an opening that returned 0 left it": b, with the limits a, h and e
+pub record Fresh (a h e : ℕ) (b : Bytes) : Type 0 where
+  pub slice : Bytes
+  pub opening : openOf a h e slice ≡ opened 0 b
+
+-- number, length, answer slice and register are those of a reply: the slice was o and is o′, and "bytes past the answer are unchanged"; on
+-- a refusal all are
+pub record Gives (r : Reply) (o : Bytes) (number n : ℕ) (o′ b′ : Bytes) : Type 0 where
+  pub number-is : number ≡ r .number
+  pub length-is : n ≡ r .length
+  pub answer-is : o′ ≡ splice o 0 (r .answer)
+  pub register-is : b′ ≡ r .register
+
+-- a call c on the register b and the answer slice o
+abbrev pub Stepped : Bytes → Bytes → Bytes → ℕ → ℕ → Bytes → Bytes → Type 0
+Stepped b c o = Gives (stepOf b c (length o)) o
+
+-- a call as it was made: its bytes and the answer slice's former ones; number and length that it returned, answer slice and register
+-- that it left
+pub record Made : Type 0 where
+  pub call : Bytes
+  pub former : Bytes
+  pub number : ℕ
+  pub length : ℕ
+  pub answer : Bytes
+  pub register : Bytes
+
+-- calls one after the other, the first on the register b, each other on what the one before left
+abbrev pub Trace : Bytes → List Made → Type 0
+Trace b [] = Unit {0}
+Trace b (m ∷ l) = Stepped b (m .call) (m .former) (m .number) (m .length) (m .answer) (m .register) × Trace (m .register) l
+
+-- "A list fixes each call's bytes and answer length; the answer slice's former bytes are free."
+abbrev pub asked : Made → Bytes × ℕ
+asked m = (m .call, length (m .former))
+
+-- ---- the first half: "from opening's bytes it takes each call's bytes and answer length in turn, and the sections above give number,
+-- ---- length, answer and its next register"
+
+abbrev pub AsReplied : List Made → List Reply → Type 0
+AsReplied [] [] = Unit {0}
+AsReplied [] (r ∷ q) = ⊥
+AsReplied (m ∷ l) [] = ⊥
+AsReplied (m ∷ l) (r ∷ q) = Gives r (m .former) (m .number) (m .length) (m .answer) (m .register) × AsReplied l q
+
+-- ---- the second half: twins. "Registers and answers are compared with both fields, their lengths and presence taken as zero"
+
+-- the answer, without the bytes past it, masked by its operation
+abbrev pub masked : Made → Bytes
+masked m = maskAnswer (getD (m .call) 0 0) (take (m .length) (m .answer))
+
+pub record Alike (m m′ : Made) : Type 0 where
+  pub number : m .number ≡ m′ .number
+  pub length : m .length ≡ m′ .length
+  pub answer : masked m ≡ masked m′
+  pub register : maskRegister (m .register) ≡ maskRegister (m′ .register)
+
+abbrev pub AllAlike : List Made → List Made → Type 0
+AllAlike [] [] = Unit {0}
+AllAlike [] (m′ ∷ l′) = ⊥
+AllAlike (m ∷ l) [] = ⊥
+AllAlike (m ∷ l) (m′ ∷ l′) = Alike m m′ × AllAlike l l′
+
+-- what slices hold is bytes
+abbrev pub AllOctets : List Made → Type 0
+AllOctets [] = Unit {0}
+AllOctets (m ∷ l) = Octets (m .call) × AllOctets l
+
+-- ---- the claim
+
+pub record Claim : Type 0 where
+  -- every list of calls on a fresh register gives at every place what the definition gives
+  pub replied : (a h e : ℕ) (b : Bytes) (l : List Made) → Fresh a h e b → Trace b l → AsReplied l (run (map asked l) b)
+  -- twins on fresh registers of the same limits give the same at every place, texts and details taken as zero
+  pub twins :
+      (a h e : ℕ) (b b′ : Bytes) (l l′ : List Made) → Fresh a h e b → Fresh a h e b′ → AllOctets l → AllOctets l′ → Trace b l → Trace b′ l′ →
+      TwinLists (map asked l) (map asked l′) → AllAlike l l′

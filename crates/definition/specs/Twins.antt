@@ -1,0 +1,47 @@
+-- "Twins": lists of calls that may differ in the texts and details of their raises, and in nothing else.
+use Prim.Native.Nat.{ℕ}
+use mathlib.Core.Path.{_≡_}
+use mathlib.Core.List.{List, [], _∷_, _++_}
+use mathlib.Core.Bool.{cond}
+use Rattle.octets.specs.Bytes.{Bytes}
+use Rattle.definition.specs.Value.{HeadValue, KeyValue, RaiseValue}
+use Rattle.definition.specs.Reader.{got, Reader, _>>=_, give, refuse}
+use Rattle.definition.specs.Parse.{head, key, named, body}
+
+-- the fields of a raise before its text: those of `raiseFields`, up to the fault 29
+unfoldable pub beforeText : Reader (HeadValue × KeyValue)
+beforeText = do
+  h ← head
+  k ← key
+  cond (named (k .places .region)) (give (h, k)) (refuse 29)
+
+-- "with each field read without a fault": those before the text from the bytes `before`, text and details from `texts`. `after` is what is
+-- left over
+pub record ReadRaise (before texts after : Bytes) : Type 0 where
+  pub early : HeadValue × KeyValue
+  pub raise : RaiseValue
+  pub beforeRead : beforeText (before ++ (texts ++ after)) ≡ got early (texts ++ after)
+  pub textsRead : body (early .0) (early .1) (texts ++ after) ≡ got raise after
+
+-- "both are raises with each field read without a fault, and equal outside the fields text and details"
+pub record TwinRaises (b b′ : Bytes) : Type 0 where
+  pub before : Bytes
+  pub texts : Bytes
+  pub texts′ : Bytes
+  pub after : Bytes
+  pub is : b ≡ 1 ∷ (before ++ (texts ++ after))
+  pub is′ : b′ ≡ 1 ∷ (before ++ (texts′ ++ after))
+  pub read : ReadRaise before texts after
+  pub read′ : ReadRaise before texts′ after
+
+-- "the calls are too [equal], or both are raises .."
+pub data TwinCall (b b′ : Bytes) : Type 0 where
+  equal : b ≡ b′ → TwinCall b b′
+  raises : TwinRaises b b′ → TwinCall b b′
+
+-- "Twins have equally many calls. At each place the answer lengths are equal, and the calls are too, or .."
+abbrev pub TwinLists : List (Bytes × ℕ) → List (Bytes × ℕ) → Type 0
+TwinLists [] [] = Unit {0}
+TwinLists [] (q ∷ m) = ⊥
+TwinLists (p ∷ l) [] = ⊥
+TwinLists (p ∷ l) (q ∷ m) = (p .1 ≡ q .1) × TwinCall (p .0) (q .0) × TwinLists l m
