@@ -1,3 +1,3 @@
-pub mod Laws
+pub mod HexLaws
 pub mod PutLaws
 pub mod Room

@@ -1,5 +1,7 @@
 // The key of an alarm: the first 16 bytes of SHA-256 over its type, cause, object and places; and its digits.
 use model::AffectedObject;
+use model::CauseSpan;
+use model::KeyFields;
 use model::OptSpan;
 use model::Places;
 use model::Span;
@@ -8,15 +10,16 @@ ghost use mathlib.Core.List.{_++_};
 ghost use Prim.Native.Nat.{_+_, _-_, _*_, _≤_, _<_};
 ghost use lib.ListN.{length};
 ghost use Rattle.octets.specs.Bytes.{splice};
-ghost use Rattle.definition.specs.Limits.{shortLimit, regionLimit};
+ghost use Rattle.definition.specs.Limits.{shortLimit, causeLimit, regionLimit};
+ghost use Rattle.definition.specs.Cause.{other};
 ghost use Rattle.definition.specs.Key.{string, optional, decimal, fedObject, fedPlaces, fed, keyOf, hexDigit, hex};
 ghost use Rattle.model.specs.Meaning.{part, optPart, causePart, objectValue, placesValue, keyValue, within, optWithin, causeWithin, objectWithin, PlacesWithin, KeyWithin};
-ghost use Rattle.key.specs.Put.{Put};
+ghost use Rattle.key.specs.Put.{room, Put};
 
 // ---- strings and options, encoded as in a call, put into the buffer of what is hashed
 
 fn put_string(buf: &mut [u8], at: usize, s: &[u8]) -> usize
-    requires { ⌜ (length (now buf) ≡ 640) × (at + (4 + length (now s)) ≤ 640) ⌝ }
+    requires { ⌜ (length (now buf) ≡ room) × (at + (4 + length (now s)) ≤ room) ⌝ }
     ensures { λ r. ⌜ Put (now (buf .entry)) at (string (now (s .entry))) r (now (buf .exit)) ⌝ }
 {
     let n = s.len();
@@ -28,7 +31,7 @@ fn put_string(buf: &mut [u8], at: usize, s: &[u8]) -> usize
 
 // A part of the call.
 fn put_part(buf: &mut [u8], at: usize, call: &[u8], p: Span) -> usize
-    requires { ⌜ (length (now buf) ≡ 640) × (at + (4 + regionLimit) ≤ 640) × within (now call) regionLimit p ⌝ }
+    requires { ⌜ (length (now buf) ≡ room) × (at + (4 + regionLimit) ≤ room) × within (now call) regionLimit p ⌝ }
     ensures { λ r. ⌜ Put (now (buf .entry)) at (string (part (now (call .entry)) p)) r (now (buf .exit)) ⌝ }
 {
     let a = p.at;
@@ -37,7 +40,7 @@ fn put_part(buf: &mut [u8], at: usize, call: &[u8], p: Span) -> usize
 }
 
 fn put_option(buf: &mut [u8], at: usize, call: &[u8], p: OptSpan) -> usize
-    requires { ⌜ (length (now buf) ≡ 640) × (at + (5 + regionLimit) ≤ 640) × optWithin (now call) regionLimit p ⌝ }
+    requires { ⌜ (length (now buf) ≡ room) × (at + (5 + regionLimit) ≤ room) × optWithin (now call) regionLimit p ⌝ }
     ensures { λ r. ⌜ Put (now (buf .entry)) at (optional (optPart (now (call .entry)) p)) r (now (buf .exit)) ⌝ }
 {
     let a = at + 1;
@@ -53,7 +56,42 @@ fn put_option(buf: &mut [u8], at: usize, call: &[u8], p: OptSpan) -> usize
     }
 }
 
-// ---- the affected object
+// ---- the cause, in its stored form
+
+// `other:` and the trimmed name.
+fn put_other(buf: &mut [u8], at: usize, call: &[u8], p: Span) -> usize
+    requires { ⌜ (at + causeLimit ≤ length (now buf)) × (p .at + p .len ≤ length (now call)) × (6 + p .len ≤ causeLimit) ⌝ }
+    ensures { λ r. ⌜ Put (now (buf .entry)) at (other ++ part (now (call .entry)) p) r (now (buf .exit)) ⌝ }
+{
+    let n = p.len;
+    let a = p.at;
+    let e = a + n;
+    let m = at + 6;
+    octets::put_bytes(buf, at, b"other:");
+    octets::put_bytes(buf, m, &call[a..e]);
+    m + n
+}
+
+fn put_stored(buf: &mut [u8], at: usize, call: &[u8], c: CauseSpan) -> usize
+    requires { ⌜ (at + causeLimit ≤ length (now buf)) × causeWithin (now call) c ⌝ }
+    ensures { λ r. ⌜ Put (now (buf .entry)) at (causePart (now (call .entry)) c) r (now (buf .exit)) ⌝ }
+{
+    match c {
+        CauseSpan::Name(k) => cause::put_name(buf, at, k),
+        CauseSpan::Other(p) => put_other(buf, at, call, p),
+    }
+}
+
+fn put_cause(buf: &mut [u8], at: usize, call: &[u8], c: CauseSpan) -> usize
+    requires { ⌜ (length (now buf) ≡ room) × (at + (4 + causeLimit) ≤ room) × causeWithin (now call) c ⌝ }
+    ensures { λ r. ⌜ Put (now (buf .entry)) at (string (causePart (now (call .entry)) c)) r (now (buf .exit)) ⌝ }
+{
+    let mut stored = [0u8; 96];
+    let n = put_stored(&mut stored, 0, call, c);
+    put_string(buf, at, &stored[..n])
+}
+
+// ---- the affected object, behind type and cause, which take 168 bytes at most
 
 // How many of five decimal digits are not written: no leading zero is, save that of 0.
 fn unwritten(q: u16) -> usize
@@ -74,7 +112,7 @@ fn unwritten(q: u16) -> usize
 
 // The queue, in decimal digits.
 fn put_queue(buf: &mut [u8], at: usize, q: u16) -> usize
-    requires { ⌜ (length (now buf) ≡ 640) × (at + 9 ≤ 640) ⌝ }
+    requires { ⌜ (length (now buf) ≡ room) × (at + 9 ≤ room) ⌝ }
     ensures { λ r. ⌜ Put (now (buf .entry)) at (string (decimal q)) r (now (buf .exit)) ⌝ }
 {
     let digits = [
@@ -90,7 +128,7 @@ fn put_queue(buf: &mut [u8], at: usize, q: u16) -> usize
 
 // A kind's tag and its one string.
 fn put_single(buf: &mut [u8], at: usize, tag: &[u8], call: &[u8], a: Span) -> usize
-    requires { ⌜ (length (now buf) ≡ 640) × (at ≤ 168) × (length (now tag) ≤ 14) × within (now call) shortLimit a ⌝ }
+    requires { ⌜ (length (now buf) ≡ room) × (at ≤ 168) × (length (now tag) ≤ 14) × within (now call) shortLimit a ⌝ }
     ensures { λ r. ⌜ Put (now (buf .entry)) at (string (now (tag .entry)) ++ string (part (now (call .entry)) a)) r (now (buf .exit)) ⌝ }
 {
     let n = put_string(buf, at, tag);
@@ -99,7 +137,7 @@ fn put_single(buf: &mut [u8], at: usize, tag: &[u8], call: &[u8], a: Span) -> us
 
 // A kind's tag and its two strings.
 fn put_pair(buf: &mut [u8], at: usize, tag: &[u8], call: &[u8], a: Span, b: Span) -> usize
-    requires { ⌜ (length (now buf) ≡ 640) × (at ≤ 168) × (length (now tag) ≤ 14) × within (now call) shortLimit a × within (now call) shortLimit b ⌝ }
+    requires { ⌜ (length (now buf) ≡ room) × (at ≤ 168) × (length (now tag) ≤ 14) × within (now call) shortLimit a × within (now call) shortLimit b ⌝ }
     ensures { λ r. ⌜ Put (now (buf .entry)) at (string (now (tag .entry)) ++ string (part (now (call .entry)) a) ++ string (part (now (call .entry)) b)) r (now (buf .exit)) ⌝ }
 {
     let n = put_single(buf, at, tag, call, a);
@@ -107,7 +145,7 @@ fn put_pair(buf: &mut [u8], at: usize, tag: &[u8], call: &[u8], a: Span, b: Span
 }
 
 fn put_object(buf: &mut [u8], at: usize, call: &[u8], o: AffectedObject) -> usize
-    requires { ⌜ (length (now buf) ≡ 640) × (at ≤ 168) × objectWithin (now call) o ⌝ }
+    requires { ⌜ (length (now buf) ≡ room) × (at ≤ 168) × objectWithin (now call) o ⌝ }
     ensures { λ r. ⌜ Put (now (buf .entry)) at (fedObject (objectValue (now (call .entry)) o)) r (now (buf .exit)) ⌝ }
 {
     match o {
@@ -139,10 +177,10 @@ fn put_object(buf: &mut [u8], at: usize, call: &[u8], o: AffectedObject) -> usiz
     }
 }
 
-// ---- tenant, slice and region
+// ---- tenant, slice and region, behind an object, which takes 163 bytes at most
 
 fn put_places(buf: &mut [u8], at: usize, call: &[u8], p: Places) -> usize
-    requires { ⌜ (length (now buf) ≡ 640) × (at ≤ 331) × PlacesWithin (now call) p ⌝ }
+    requires { ⌜ (length (now buf) ≡ room) × (at ≤ 331) × PlacesWithin (now call) p ⌝ }
     ensures { λ r. ⌜ Put (now (buf .entry)) at (fedPlaces (placesValue (now (call .entry)) p)) r (now (buf .exit)) ⌝ }
 {
     let tenant = p.tenant;
@@ -151,6 +189,35 @@ fn put_places(buf: &mut [u8], at: usize, call: &[u8], p: Places) -> usize
     let n = put_option(buf, at, call, tenant);
     let m = put_option(buf, n, call, slice);
     put_option(buf, m, call, region)
+}
+
+// ---- the key
+
+// All that is hashed goes to the beginning of the buffer.
+fn feed(buf: &mut [u8], call: &[u8], kind: Span, k: KeyFields) -> usize
+    requires { ⌜ (length (now buf) ≡ room) × within (now call) shortLimit kind × KeyWithin (now call) k ⌝ }
+    ensures { λ r. ⌜ Put (now (buf .entry)) 0 (fed (part (now (call .entry)) kind) (keyValue (now (call .entry)) k)) r (now (buf .exit)) ⌝ }
+{
+    let cause = k.cause;
+    let object = k.object;
+    let places = k.places;
+    let t = put_part(buf, 0, call, kind);
+    let c = put_cause(buf, t, call, cause);
+    let o = put_object(buf, c, call, object);
+    put_places(buf, o, call, places)
+}
+
+// The key of the alarm that a raise or a clear speaks of, from the call's type and key fields.
+pub fn key_of(call: &[u8], kind: Span, k: KeyFields) -> [u8; 16]
+    requires { ⌜ within (now call) shortLimit kind × KeyWithin (now call) k ⌝ }
+    ensures { λ r. ⌜ r ≡ keyOf (part (now (call .entry)) kind) (keyValue (now (call .entry)) k) ⌝ }
+{
+    let mut buf = [0u8; 640];
+    let n = feed(&mut buf, call, kind, k);
+    let digest = sha256::sha256(&buf[..n]);
+    let mut key = [0u8; 16];
+    octets::put_bytes(&mut key, 0, &digest[..16]);
+    key
 }
 
 // ---- the key's digits

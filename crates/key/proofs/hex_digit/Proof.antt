@@ -1,4 +1,4 @@
--- `hex_digit` meets its contract.
+-- `hex_digit` meets its contract: the definition asks what the code does.
 use borrow.Author.Needs.{needs}
 use borrow.Author.Tests.{lt-ltb, le-ltb}
 use Rattle.key.proofs.hex_digit.Statement.{statement}

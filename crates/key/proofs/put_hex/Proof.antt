@@ -8,7 +8,7 @@ use lib.Seq.{take-all}
 use Rattle.octets.specs.Bytes.{splice}
 use Rattle.octets.specs.SpliceLaws.{splice-none}
 use Rattle.definition.specs.Key.{hex}
-use Rattle.key.proofs.Laws.{hex-step}
+use Rattle.key.proofs.HexLaws.{hex-step}
 use Rattle.key.proofs.put_hex.Statement.{statement}
 use Rattle.key.proofs.put_hex.Tie as tie
 

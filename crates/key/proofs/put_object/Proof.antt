@@ -3,10 +3,9 @@ use mathlib.Core.Path.{_∙_}
 use native.Mathlib.Omega.{arith}
 use Rattle.octets.specs.Bytes.{ascii}
 use Rattle.definition.specs.Key.{string, optional, decimal, parts, fedObject}
-use Rattle.definition.specs.KeyLaws.{length-string, length-decimal}
 use Rattle.model.specs.Meaning.{part, optPart}
 use Rattle.key.proofs.PutLaws.{put-two, put-as, single-fed, shard-fed, pair-fed, queue-fed}
-use Rattle.key.proofs.Room.{single-room, pair-room, option-room, option-wider, object-case, fed-case}
+use Rattle.key.proofs.Room.{single-room, pair-room, option-wider, object-case, fed-case}
 use borrow.Author.Needs.{needs}
 use Rattle.key.proofs.put_object.Statement.{statement}
 use Rattle.key.proofs.put_object.Tie as tie
@@ -75,10 +74,8 @@ unfolding fedObject parts
 returns-4 c =
     let s = c .before .before .before .before .before .before .before .before .before .before .before .before .before .before .args in
     let o = c .before .before .before .before .before .before .before .before .before .before .o4 .given in
-    let w = object-case (s .call .now) (o .1) (c .before .before .before .before .before .before .before .before .before .before .before .before .before .before .pre .2) in
     put-as (shard-fed (ascii "SessionStore") (part (s .call .now) (o .0 .0)) (optional (optPart (s .call .now) (o .0 .1 .0))) ∙ fed-case (s .call .now) (o .1))
-    (put-two (c .before .before .before .before .before .before .put-single .ensures) (c .before .before .put-option .ensures)
-    (omega (arith, single-room (s .call .now) (ascii "SessionStore") (o .0 .0) (w .0), option-room (s .call .now) 64 (o .0 .1 .0) (w .1))))
+    (put-two (c .before .before .before .before .before .before .put-single .ensures) (c .before .before .put-option .ensures))
 
 returns-5 : tie.Need-returns-5
 unfolding fedObject parts
@@ -106,11 +103,8 @@ unfolding fedObject parts
 returns-8 c =
     let s = c .before .before .before .before .before .before .before .before .before .before .before .before .before .before .args in
     let o = c .before .before .before .before .before .before .before .before .before .before .o8 .given in
-    let w = object-case (s .call .now) (o .1) (c .before .before .before .before .before .before .before .before .before .before .before .before .before .before .pre .2) in
-    let q = decimal (o .0 .1 .1 .0) in
-    put-as (queue-fed (ascii "DataPlaneQueue") (part (s .call .now) (o .0 .0)) (part (s .call .now) (o .0 .1 .0)) (string q) ∙ fed-case (s .call .now) (o .1))
-    (put-two (c .before .before .before .before .before .before .put-pair4 .ensures) (c .before .before .put-queue .ensures)
-    (omega (arith, pair-room (s .call .now) (ascii "DataPlaneQueue") (o .0 .0) (o .0 .1 .0) (w .0) (w .1), length-string q, length-decimal (o .0 .1 .1 .0))))
+    put-as (queue-fed (ascii "DataPlaneQueue") (part (s .call .now) (o .0 .0)) (part (s .call .now) (o .0 .1 .0)) (string (decimal (o .0 .1 .1 .0))) ∙ fed-case (s .call .now) (o .1))
+    (put-two (c .before .before .before .before .before .before .put-pair4 .ensures) (c .before .before .put-queue .ensures))
 
 pub put-object-spec : {M : Type 1} → statement M
 put-object-spec =

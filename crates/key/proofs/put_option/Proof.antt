@@ -1,10 +1,7 @@
--- `put_option` meets its contract.
-use mathlib.Core.Path.{refl, sym, ap}
-use native.Mathlib.Omega.{arith}
-use Rattle.definition.specs.Key.{optional}
-use Rattle.model.specs.Meaning.{optPart}
+-- `put_option` meets its contract: a byte, and the string behind it where there is one.
+use mathlib.Core.Path.{refl}
 use Rattle.key.proofs.PutLaws.{put-two, put-as}
-use Rattle.key.proofs.Room.{string-room, option-case}
+use Rattle.key.proofs.Room.{option-case, option-fed}
 use borrow.Author.Needs.{needs}
 use Rattle.key.proofs.put_option.Statement.{statement}
 use Rattle.key.proofs.put_option.Tie as tie
@@ -14,16 +11,12 @@ put-part-requires c κs = (search needs, search needs, option-case _ _ (c .befor
 
 returns : tie.Need-returns
 returns c =
-    let s = c .before .before .before .before .before .before .before .before .args in
-    put-as (ap (λ x. optional (optPart (s .call .now) x)) (sym (c .before .before .before .before .enum-told .given .1))) (record { next = refl; bytes = c .before .before .put-byte .ensures })
+    put-as (option-fed _ (c .before .before .before .before .enum-told .given .1)) (record { next = refl; fits = search needs; bytes = c .before .before .put-byte .ensures })
 
 returns-2 : tie.Need-returns-2
 returns-2 c =
-    let s = c .before .before .before .before .before .before .before .before .before .before .before .before .before .args in
-    let q = c .before .before .before .before .before .before .before .before .before .p .given in
-    put-as (ap (λ x. optional (optPart (s .call .now) x)) (sym (q .1)))
-    (put-two (record { next = refl; bytes = c .before .before .before .before .before .before .put-byte2 .ensures }) (c .before .before .put-part .ensures)
-    (omega (arith, string-room (s .call .now) 128 (q .0 .0) (option-case (s .call .now) 128 (q .1) (c .before .before .before .before .before .before .before .before .before .before .before .before .before .pre .2)))))
+    put-as (option-fed _ (c .before .before .before .before .before .before .before .before .before .p .given .1))
+    (put-two (record { next = refl; fits = search needs; bytes = c .before .before .before .before .before .before .put-byte2 .ensures }) (c .before .before .put-part .ensures))
 
 pub put-option-spec : {M : Type 1} → statement M
 put-option-spec =

@@ -1,11 +1,7 @@
--- `put_pair` meets its contract.
+-- `put_pair` meets its contract: the second string stands behind tag and first string.
 use native.Mathlib.Omega.{arith}
-use lib.ListN.{length-append}
-use Rattle.definition.specs.Key.{string}
-use Rattle.definition.specs.KeyLaws.{length-string}
-use Rattle.model.specs.Meaning.{part}
 use Rattle.key.proofs.PutLaws.{put-two}
-use Rattle.key.proofs.Room.{string-room, wider}
+use Rattle.key.proofs.Room.{single-room, wider}
 use borrow.Author.Needs.{needs}
 use Rattle.key.proofs.put_pair.Statement.{statement}
 use Rattle.key.proofs.put_pair.Tie as tie
@@ -13,13 +9,11 @@ use Rattle.key.proofs.put_pair.Tie as tie
 put-part-requires : tie.Need-put-part-requires
 put-part-requires c κs =
     let s = c .before .before .before .before .before .before .before .before .args in
-    (search needs, omega (arith, length-append (string (s .tag .now)) (string (part (s .call .now) (s .a))), length-string (s .tag .now), string-room (s .call .now) 64 (s .a) (c .before .before .before .before .before .before .before .before .pre .3)), wider (s .call .now) (s .b) (c .before .before .before .before .before .before .before .before .pre .4))
+    let w = c .before .before .before .before .before .before .before .before .pre in
+    (search needs, omega (arith, single-room (s .call .now) (s .tag .now) (s .a) (w .3)), wider (s .call .now) (s .b) (w .4))
 
 returns : tie.Need-returns
-returns c =
-    let s = c .before .before .before .before .before .before .before .before .before .before .before .args in
-    put-two (c .before .before .before .before .before .before .put-single .ensures) (c .before .before .put-part .ensures)
-    (omega (arith, length-append (string (s .tag .now)) (string (part (s .call .now) (s .a))), length-string (s .tag .now), string-room (s .call .now) 64 (s .a) (c .before .before .before .before .before .before .before .before .before .before .before .pre .3), string-room (s .call .now) 64 (s .b) (c .before .before .before .before .before .before .before .before .before .before .before .pre .4)))
+returns c = put-two (c .before .before .before .before .before .before .put-single .ensures) (c .before .before .put-part .ensures)
 
 pub put-pair-spec : {M : Type 1} → statement M
 put-pair-spec = tie.close (tie.spec (λ c κs. search needs) put-part-requires (λ c. search needs) returns)

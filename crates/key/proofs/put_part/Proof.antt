@@ -1,4 +1,4 @@
--- `put_part` meets its contract.
+-- `put_part` meets its contract: the part lent is the one that the span names.
 use mathlib.Core.Path.{ap}
 use Rattle.definition.specs.Key.{string}
 use Rattle.key.proofs.PutLaws.{put-as, put-string, span-part}

@@ -1,8 +1,6 @@
--- `put_places` meets its contract.
+-- `put_places` meets its contract: three options, one behind the other.
 use native.Mathlib.Omega.{arith}
-use lib.ListN.{length-append}
-use Rattle.definition.specs.Key.{fedPlaces, optional}
-use Rattle.model.specs.Meaning.{optPart}
+use Rattle.definition.specs.Key.{fedPlaces}
 use Rattle.key.proofs.PutLaws.{put-two}
 use Rattle.key.proofs.Room.{option-room, option-wider}
 use borrow.Author.Needs.{needs}
@@ -29,13 +27,7 @@ put-option-requires-3 c κs =
 
 returns : tie.Need-returns
 unfolding fedPlaces
-returns c =
-    let s = c .before .before .before .before .before .before .before .before .before .before .before .before .before .before .args in
-    let w = c .before .before .before .before .before .before .before .before .before .before .before .before .before .before .pre .2 in
-    let t = option-room (s .call .now) 64 (s .p .tenant) (w .tenant) in
-    let l = option-room (s .call .now) 64 (s .p .slice) (w .slice) in
-    let g = option-room (s .call .now) 128 (s .p .region) (w .region) in
-    put-two (c .before .before .before .before .before .before .before .before .before .before .put-option .ensures) (put-two (c .before .before .before .before .before .before .put-option2 .ensures) (c .before .before .put-option3 .ensures) (omega arith)) (omega (arith, length-append (optional (optPart (s .call .now) (s .p .slice))) (optional (optPart (s .call .now) (s .p .region)))))
+returns c = put-two (c .before .before .before .before .before .before .before .before .before .before .put-option .ensures) (put-two (c .before .before .before .before .before .before .put-option2 .ensures) (c .before .before .put-option3 .ensures))
 
 pub put-places-spec : {M : Type 1} → statement M
 put-places-spec =

@@ -1,7 +1,7 @@
-use Rattle.octets.specs.PartLaws.{part-rest}
--- `put_queue` meets its contract.
+-- `put_queue` meets its contract: the digits that are written are the last ones of five.
 use mathlib.Core.Path.{ap, _∙_}
 use lib.ListN.{drop}
+use Rattle.octets.specs.PartLaws.{part-rest}
 use Rattle.definition.specs.Key.{string}
 use Rattle.definition.specs.KeyLaws.{five-decimal, fiveDigits}
 use Rattle.key.proofs.PutLaws.{put-as, put-string}

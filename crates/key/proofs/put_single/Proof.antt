@@ -1,8 +1,8 @@
--- `put_single` meets its contract.
+-- `put_single` meets its contract: the string stands behind the tag.
 use native.Mathlib.Omega.{arith}
 use Rattle.definition.specs.KeyLaws.{length-string}
 use Rattle.key.proofs.PutLaws.{put-two, put-string}
-use Rattle.key.proofs.Room.{string-room, wider}
+use Rattle.key.proofs.Room.{wider}
 use borrow.Author.Needs.{needs}
 use Rattle.key.proofs.put_single.Statement.{statement}
 use Rattle.key.proofs.put_single.Tie as tie
@@ -13,10 +13,7 @@ put-part-requires c κs =
     (search needs, omega (arith, length-string (s .tag .now)), wider (s .call .now) (s .a) (c .before .before .before .before .before .before .before .before .pre .3))
 
 returns : tie.Need-returns
-returns c =
-    let s = c .before .before .before .before .before .before .before .before .before .before .before .args in
-    put-two (c .before .before .before .before .before .before .put-string .ensures) (c .before .before .put-part .ensures)
-    (omega (arith, length-string (s .tag .now), string-room (s .call .now) 64 (s .a) (c .before .before .before .before .before .before .before .before .before .before .before .pre .3)))
+returns c = put-two (c .before .before .before .before .before .before .put-string .ensures) (c .before .before .put-part .ensures)
 
 pub put-single-spec : {M : Type 1} → statement M
 put-single-spec = tie.close (tie.spec (λ c κs. search needs) put-part-requires (λ c. search needs) returns)

@@ -1,4 +1,4 @@
--- `put_string` meets its contract.
+-- `put_string` meets its contract: the bytes stand behind their length.
 use native.Mathlib.Omega.{arith}
 use Rattle.key.proofs.PutLaws.{put-string}
 use borrow.Author.Needs.{needs}
