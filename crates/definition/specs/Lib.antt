@@ -66,6 +66,7 @@ pub mod PerformLaws
 pub mod KeepLaws
 pub mod ChangeLaws
 pub mod FieldLaws
+pub mod ReadLaws
 pub mod BlindLaws
 pub mod BlankLaws
 pub mod AnswerLaws
