@@ -4,7 +4,7 @@ use mathlib.Core.Option.{Option}
 use lib.ListN.{length, drop}
 use Rattle.octets.specs.Bytes.{Bytes}
 use Rattle.definition.specs.Reader.{Out, got, bad, Reader, blob, text}
-use Rattle.model.specs.Meaning.{part, optPart, within, optWithin}
+use Rattle.model.specs.Meaning.{part, optPart, causePart, within, optWithin, causeWithin}
 use Rattle.fields.specs.declared.NumRead.{NumRead}
 use Rattle.fields.specs.declared.NumRead.the-variants as N
 use Rattle.fields.specs.declared.ByteRead.{ByteRead}
@@ -13,6 +13,8 @@ use Rattle.fields.specs.declared.TextRead.{TextRead}
 use Rattle.fields.specs.declared.TextRead.the-variants as T
 use Rattle.fields.specs.declared.OptRead.{OptRead}
 use Rattle.fields.specs.declared.OptRead.the-variants as O
+use Rattle.fields.specs.declared.CauseRead.{CauseRead}
+use Rattle.fields.specs.declared.CauseRead.the-variants as C
 use Rattle.fields.specs.declared.Rule.{Rule}
 use Rattle.fields.specs.declared.Rule.the-variants as R
 
@@ -37,6 +39,10 @@ abbrev pub optOut : Bytes → OptRead → Out (Option Bytes)
 optOut call (O.Got p i) = got (optPart call p) (drop i call)
 optOut call (O.Bad k) = bad k
 
+abbrev pub causeOut : Bytes → CauseRead → Out Bytes
+causeOut call (C.Got p i) = got (causePart call p) (drop i call)
+causeOut call (C.Bad k) = bad k
+
 -- ---- what was read fits its field, and ends within the call
 
 abbrev pub numFits : Bytes → ℕ → NumRead → Type 0
@@ -54,3 +60,7 @@ textFits call limit (T.Bad k) = Unit
 abbrev pub optFits : Bytes → ℕ → OptRead → Type 0
 optFits call limit (O.Got p i) = optWithin call limit p × (i ≤ length call)
 optFits call limit (O.Bad k) = Unit
+
+abbrev pub causeFits : Bytes → CauseRead → Type 0
+causeFits call (C.Got p i) = causeWithin call p × (i ≤ length call)
+causeFits call (C.Bad k) = Unit

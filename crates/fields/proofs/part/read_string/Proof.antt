@@ -1,7 +1,7 @@
 -- `read_string` meets its contract: one reader for each rule.
 use borrow.Author.Needs.{needs}
-use Rattle.fields.proofs.read_string.Statement.{statement}
-use Rattle.fields.proofs.read_string.Tie as tie
+use Rattle.fields.proofs.part.read_string.Statement.{statement}
+use Rattle.fields.proofs.part.read_string.Tie as tie
 
 returns : tie.Need-returns
 returns c = rw (c .before .enum-told .given .1) (c .read-text .ensures)

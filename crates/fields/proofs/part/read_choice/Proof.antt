@@ -4,8 +4,8 @@ use borrow.Author.Tests.{le-leb, lt-leb}
 use Rattle.definition.specs.Reader.{_>>=_, choice}
 use Rattle.fields.specs.ReaderLaws.{number-short, byte-got}
 use borrow.Author.Needs.{needs}
-use Rattle.fields.proofs.read_choice.Statement.{statement}
-use Rattle.fields.proofs.read_choice.Tie as tie
+use Rattle.fields.proofs.part.read_choice.Statement.{statement}
+use Rattle.fields.proofs.part.read_choice.Tie as tie
 
 returns : tie.Need-returns
 unfolding choice _>>=_

@@ -7,8 +7,8 @@ use Rattle.fields.specs.Answers.{textOut, textFits}
 use Rattle.fields.specs.ReaderLaws.{read}
 use Rattle.fields.specs.PlaceLaws.{lent-part}
 use borrow.Author.Needs.{needs}
-use Rattle.fields.proofs.read_text.Statement.{statement}
-use Rattle.fields.proofs.read_text.Tie as tie
+use Rattle.fields.proofs.part.read_text.Statement.{statement}
+use Rattle.fields.proofs.part.read_text.Tie as tie
 
 returns : tie.Need-returns
 unfolding text _>>=_

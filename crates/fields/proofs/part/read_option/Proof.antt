@@ -8,8 +8,8 @@ use Rattle.fields.specs.Answers.{byteOut, byteFits, stringBy, textOut, t
 use Rattle.fields.specs.ReaderLaws.{read}
 use Rattle.fields.specs.PlaceLaws.{rest, moved, part-moved, length-rest, lent-bad, lent-got}
 use borrow.Author.Needs.{needs}
-use Rattle.fields.proofs.read_option.Statement.{statement}
-use Rattle.fields.proofs.read_option.Tie as tie
+use Rattle.fields.proofs.part.read_option.Statement.{statement}
+use Rattle.fields.proofs.part.read_option.Tie as tie
 
 returns : tie.Need-returns
 unfolding optional _>>=_

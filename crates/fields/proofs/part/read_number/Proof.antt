@@ -7,8 +7,8 @@ use lib.ListN.{drop, take}
 use lib.Seq.{length-take-le}
 use Rattle.fields.specs.ReaderLaws.{number-short, number-got}
 use borrow.Author.Needs.{needs}
-use Rattle.fields.proofs.read_number.Statement.{statement}
-use Rattle.fields.proofs.read_number.Tie as tie
+use Rattle.fields.proofs.part.read_number.Statement.{statement}
+use Rattle.fields.proofs.part.read_number.Tie as tie
 
 returns : tie.Need-returns
 returns c = let a = c .before .before .args in (sym (number-short (a .n) (a .part .now) (c .if1 .taken)), tt)

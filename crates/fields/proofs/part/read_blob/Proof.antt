@@ -8,8 +8,8 @@ use Rattle.definition.specs.Reader.{_>>=_, blob}
 use Rattle.fields.specs.Answers.{numOut, numFits}
 use Rattle.fields.specs.ReaderLaws.{read, bytes-short, bytes-got}
 use borrow.Author.Needs.{needs}
-use Rattle.fields.proofs.read_blob.Statement.{statement}
-use Rattle.fields.proofs.read_blob.Tie as tie
+use Rattle.fields.proofs.part.read_blob.Statement.{statement}
+use Rattle.fields.proofs.part.read_blob.Tie as tie
 
 returns : tie.Need-returns
 unfolding blob _>>=_
