@@ -22,12 +22,21 @@ HOME = {name: module for module, names in MEANING.items() for name in names}
 
 DOCUMENTS = ["README.md", "NOTICE", "docs/*.md"]
 
+# The scripts that write what programs are to read and to print, and the files that they write.
+SCRIPTS = ["tests/vectors/*.py", "tests/calls/make.py"]
+WRITTEN = ["crates/*_vectors/stdout", "tests/calls/std*"]
+
 
 def texts(root, *patterns):
     """Path below the root, and text, of the files that match."""
     for pattern in patterns:
         for path in sorted(root.glob(pattern)):
             yield path.relative_to(root).as_posix(), path.read_text(encoding="utf-8")
+
+
+def matching(root, patterns):
+    """The files that match, as paths below the root."""
+    return sorted(path.relative_to(root) for pattern in patterns for path in root.glob(pattern))
 
 
 def code(root):
@@ -201,24 +210,23 @@ def paths(root):
 
 
 def vectors(root):
-    """What the vector programs are to print is what the scripts of tests/vectors give, by Python's library."""
-    scripts = sorted((root / "tests/vectors").glob("*.py"))
+    """What programs are to read and to print is what the scripts write, by Python's library or by a reading of their own."""
+    scripts, stored = matching(root, SCRIPTS), matching(root, WRITTEN)
     if not scripts:
         raise Skip("tests/vectors is not there yet")
-    stored = sorted(root.glob("crates/*_vectors/stdout"))
     with tempfile.TemporaryDirectory() as name:
         copy = pathlib.Path(name)
-        shutil.copytree(root / "tests/vectors", copy / "tests/vectors")
+        for folder in {script.parent for script in scripts}:
+            shutil.copytree(root / folder, copy / folder, ignore=shutil.ignore_patterns("std*"))
         for file in stored:
-            (copy / file.parent.relative_to(root)).mkdir(parents=True)
+            (copy / file.parent).mkdir(parents=True, exist_ok=True)
         for script in scripts:
-            subprocess.run([sys.executable, "-B", copy / script.relative_to(root)], cwd=copy, check=True)
-        for file in stored:
-            made = copy / file.relative_to(root)
-            if not made.exists():
-                yield f"no script writes {file.relative_to(root)}"
-            elif made.read_bytes() != file.read_bytes():
-                yield f"{file.relative_to(root)} is not what the scripts write"
+            subprocess.run([sys.executable, "-B", copy / script], cwd=copy, check=True)
+        for file in sorted({*stored, *matching(copy, WRITTEN)}):
+            if not (copy / file).exists():
+                yield f"no script writes {file}"
+            elif file not in stored or (copy / file).read_bytes() != (root / file).read_bytes():
+                yield f"{file} is not what the scripts write"
 
 
 def layout(root):

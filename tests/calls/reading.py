@@ -1,0 +1,214 @@
+"""What a call says, read from document 01's sections "The call enters" and "Cause names", and from nothing else here.
+
+`line(call)` is the line for a call's bytes: `refused N`, or the operation's name and all fields in order. A number is
+decimal, a time too, as the unsigned number of its eight bytes. A string is `x` and its bytes in lower-case hexadecimal
+digits; an absent one is `-`. A cause is in its stored form. An object is its kind and its strings, kind 8's queue last; a
+scope is its number and its string.
+"""
+
+# ---- the table of operations; "?" marks an optional string
+
+POLICY = "time id principal tenant? reason scope correlation? critical-allowed authorised denial"
+OPERATIONS = {
+    1: ("raise", "time id type severity cause object tenant? slice? region? text details?"),
+    2: ("clear", "time type cause object tenant? slice? region?"),
+    3: ("acknowledge", "time id authorised"),
+    4: ("suppress", "time id authorised"),
+    5: ("acknowledge-policy", POLICY),
+    6: ("suppress-policy", POLICY),
+    7: ("expire", "time"),
+    8: ("active", "severity-or-all"),
+    9: ("history", "tenant? slice?"),
+    10: ("counts", ""),
+    11: ("summary", ""),
+    12: ("take-audit", "n"),
+}
+FIELDS = {op: tuple(fields.split()) for op, (_, fields) in OPERATIONS.items()}
+
+# "Longest, in bytes"
+LONGEST = {
+    "id": 64, "type": 64, "string": 64, "tenant": 64, "slice": 64, "principal": 64, "correlation": 64, "scope": 64,
+    "cause": 96, "region": 128, "denial": 128, "text": 256, "reason": 256, "details": 512,
+}
+# bytes with few values
+VALUES = {
+    "severity": range(6), "severity-or-all": [*range(6), 255], "authorised": range(2), "critical-allowed": range(2),
+    "option": range(2), "kind": range(1, 9), "scope": range(3),
+}
+# the bytes of a number
+WIDTHS = {"time": 8, "n": 2, "queue": 2}
+# the eight kinds as `AffectedObject` lists them
+OBJECTS = {
+    1: ("string", "string"), 2: ("string", "string"), 3: ("string", "string"), 4: ("string", "string?"),
+    5: ("string",), 6: ("string",), 7: ("string",), 8: ("string", "string", "queue"),
+}
+
+# ---- UTF-8: the rows of RFC 3629, section 4
+
+TAIL = (0x80, 0xBF)
+ROWS = [
+    [(0x00, 0x7F)],
+    [(0xC2, 0xDF), TAIL],
+    [(0xE0, 0xE0), (0xA0, 0xBF), TAIL],
+    [(0xE1, 0xEC), TAIL, TAIL],
+    [(0xED, 0xED), (0x80, 0x9F), TAIL],
+    [(0xEE, 0xEF), TAIL, TAIL],
+    [(0xF0, 0xF0), (0x90, 0xBF), TAIL, TAIL],
+    [(0xF1, 0xF3), TAIL, TAIL, TAIL],
+    [(0xF4, 0xF4), (0x80, 0x8F), TAIL, TAIL],
+]
+
+
+def characters(s):
+    """The characters of s, each as its bytes; None where s is not UTF-8."""
+    found, at = [], 0
+    while at < len(s):
+        for row in ROWS:
+            part = s[at:at + len(row)]
+            if len(part) == len(row) and all(low <= b <= high for b, (low, high) in zip(part, row)):
+                break
+        else:
+            return None
+        found.append(part)
+        at += len(row)
+    return found
+
+
+def encoded(c):
+    """The bytes of a character by its number, or of any number up to 1FFFFF."""
+    if c < 0x80:
+        return bytes([c])
+    if c < 0x800:
+        return bytes([0xC0 | c >> 6, 0x80 | c & 63])
+    if c < 0x10000:
+        return bytes([0xE0 | c >> 12, 0x80 | c >> 6 & 63, 0x80 | c & 63])
+    return bytes([0xF0 | c >> 18, 0x80 | c >> 12 & 63, 0x80 | c >> 6 & 63, 0x80 | c & 63])
+
+
+# ---- causes
+
+WHITE = [*range(0x09, 0x0E), 0x20, 0x85, 0xA0, 0x1680, *range(0x2000, 0x200B), 0x2028, 0x2029, 0x202F, 0x205F, 0x3000]
+SPACES = {encoded(c) for c in WHITE}
+
+# the 21 names of `ProbableCause`
+NAMES = b"""config-apply-failed config-drift-detected certificate-expiring certificate-expired identity-unavailable
+authorization-policy-invalid session-store-unavailable lease-lost backend-timeout nrf-unreachable sbi-overload
+peer-unreachable packet-drop-threshold dataplane-preflight-failed storage-corruption audit-chain-invalid
+key-unavailable li-delivery-failed charging-export-failed privacy-policy-violation security-break-glass""".split()
+
+
+def stored(s):
+    """The stored form of a cause; None where s, which is UTF-8, is no cause."""
+    if s in NAMES:
+        return s
+    if s[:6] != b"other:":
+        return None
+    name = characters(s[6:])
+    while name and name[0] in SPACES:
+        name = name[1:]
+    while name and name[-1] in SPACES:
+        name = name[:-1]
+    segments = b"".join(name).split(b".")
+    if len(segments) < 2 or b"" in segments or any(c in SPACES for c in name):
+        return None
+    return b"other:" + b"".join(name)
+
+
+# ---- one pass, field by field; the first fault wins
+
+class Refused(Exception):
+    """The number of a refusal, and the field that it is given at."""
+
+
+class Call:
+    """The bytes of a call, the place in them, and the field that is being read."""
+
+    def __init__(self, data):
+        self.data, self.at, self.field, self.raised = data, 0, "op", False
+
+    def refuse(self, number):
+        raise Refused(number, self.field)
+
+    def take(self, n):
+        if self.at + n > len(self.data):
+            self.refuse(24)
+        self.at += n
+        return self.data[self.at - n:self.at]
+
+    def number(self, n):
+        return sum(b * 256 ** (n - 1 - i) for i, b in enumerate(self.take(n)))
+
+    def choice(self, values):
+        b = self.number(1)
+        if b not in VALUES[values]:
+            self.refuse(25)
+        return b
+
+    def string(self, name):
+        n = self.number(4)
+        if n > LONGEST[name]:
+            self.refuse(26)
+        s = self.take(n)
+        if name != "details" and characters(s) is None:
+            self.refuse(27)
+        if name == "cause":
+            s = stored(s)
+            if s is None:
+                self.refuse(28)
+        return s
+
+    def optional(self, name):
+        if self.choice("option") == 0:
+            return "-"
+        s = self.string(name)
+        if name == "region" and s == b"" and self.raised:
+            self.refuse(29)
+        return "x" + s.hex()
+
+    def words(self, field):
+        """A field's words. The parts of an object are fields of their own, named by kind and place."""
+        self.field = field
+        if field == "object":
+            kind = self.choice("kind")
+            yield str(kind)
+            for place, part in enumerate(OBJECTS[kind], 1):
+                self.field = f"object {kind}.{place}"
+                yield self.word(part)
+        elif field == "scope":
+            scope = self.choice("scope")
+            yield str(scope)
+            self.field = f"scope {scope}"
+            if scope < 2:
+                yield "x" + self.string("scope").hex()
+        else:
+            yield self.word(field)
+
+    def word(self, part):
+        if part in WIDTHS:
+            return str(self.number(WIDTHS[part]))
+        if part in VALUES:
+            return str(self.choice(part))
+        if part.endswith("?"):
+            return self.optional(part[:-1])
+        return "x" + self.string(part).hex()
+
+    def read(self):
+        """The operation's name and the words of its fields."""
+        if not self.data or self.data[0] not in OPERATIONS:
+            self.refuse(23)
+        op = self.number(1)
+        self.raised = op == 1
+        said = [OPERATIONS[op][0]]
+        for field in FIELDS[op]:
+            said += self.words(field)
+        self.field = "end"
+        if self.at < len(self.data):
+            self.refuse(24)
+        return said
+
+
+def line(data):
+    try:
+        return " ".join(Call(data).read())
+    except Refused as refusal:
+        return f"refused {refusal.args[0]}"
