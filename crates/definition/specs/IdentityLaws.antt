@@ -16,14 +16,14 @@ use Rattle.definition.specs.Value.{ObjectValue, nfInstance, interface, p
 use Rattle.definition.specs.Key.{parts}
 use Rattle.definition.specs.Alarm.{Alarm, sameMaybe, sameNames, sameParts, samePlaces, sameKey, sameIdentity}
 use Rattle.definition.specs.Slot.{upTo, option, join, cut}
-use Rattle.definition.specs.JoinLaws.{part-join, test-at, chain, chain-all}
+use Rattle.definition.specs.JoinLaws.{part-join, test-at, joined, joined-all}
 use Rattle.definition.specs.Record.{short, causeSlot, regionSlot, objectSlot, lastState, alarmBytes, readAlarm, soundAlarm}
 use Rattle.definition.specs.RecordLaws.{alarmWidths, alarmPieces, alarm-fits, sound-legal-alarm}
 
 -- ---- the tests say that the values are equal
 
-each : (x : Bool) (ys : List Bool) → T (chain x ys) → (i : ℕ) → T (getD (x ∷ ys) i true)
-each x ys t i = test-at (x ∷ ys) i (subst (λ (b : Bool). T b) (chain-all x ys) t)
+each : (x : Bool) (ys : List Bool) → T (joined x ys) → (i : ℕ) → T (getD (x ∷ ys) i true)
+each x ys t i = test-at (x ∷ ys) i (subst (λ (b : Bool). T b) (joined-all x ys) t)
 
 module _ {A : Type 0} (f : A → A → Bool) where
   maybe→eq : ((x y : A) → T (f x y) → x ≡ y) → (o p : Option A) → T (sameMaybe f o p) → o ≡ p

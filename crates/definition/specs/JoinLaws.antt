@@ -169,10 +169,10 @@ all-set (x ∷ xs) zero y t u = both y (allOf xs) u (both-right x (allOf xs) t)
 all-set (x ∷ xs) (suc k) y t u = both x (allOf (set xs k y)) (both-left x (allOf xs) t) (all-set xs k y (both-right x (allOf xs) t) u)
 
 -- tests joined from the left
-abbrev pub chain : Bool → List Bool → Bool
-chain x [] = x
-chain x (y ∷ ys) = chain (x && y) ys
+abbrev pub joined : Bool → List Bool → Bool
+joined x [] = x
+joined x (y ∷ ys) = joined (x && y) ys
 
-pub chain-all : (x : Bool) (ys : List Bool) → chain x ys ≡ allOf (x ∷ ys)
-chain-all x [] = sym (and-true x)
-chain-all x (y ∷ ys) = chain-all (x && y) ys ∙ and-assoc x y (allOf ys)
+pub joined-all : (x : Bool) (ys : List Bool) → joined x ys ≡ allOf (x ∷ ys)
+joined-all x [] = sym (and-true x)
+joined-all x (y ∷ ys) = joined-all (x && y) ys ∙ and-assoc x y (allOf ys)
