@@ -86,3 +86,4 @@ pub mod TwinReadLaws
 pub mod KindLaws
 pub mod Claim
 pub mod ClaimLaws
+pub mod TableSteps
