@@ -8,7 +8,7 @@ use Rattle.octets.specs.NumberLaws.{Octets}
 use Rattle.definition.specs.Opening.{opened, openOf}
 use Rattle.definition.specs.Lists.{Reply, stepOf, run}
 use Rattle.definition.specs.Mask.{maskRegister, maskAnswer}
-use Rattle.definition.specs.Twins.{TwinLists}
+use Rattle.definition.specs.Twins.{AtEach, TwinLists}
 
 -- ---- what was returned and left
 
@@ -51,11 +51,8 @@ asked m = (m .call, length (m .former))
 -- ---- the first half: "from opening's bytes it takes each call's bytes and answer length in turn, and the sections above give number,
 -- ---- length, answer and its next register"
 
-abbrev pub AsReplied : List Made → List Reply → Type 0
-AsReplied [] [] = Unit {0}
-AsReplied [] (r ∷ q) = ⊥
-AsReplied (m ∷ l) [] = ⊥
-AsReplied (m ∷ l) (r ∷ q) = Gives r (m .former) (m .number) (m .length) (m .answer) (m .register) × AsReplied l q
+abbrev pub AsReplied : Made → Reply → Type 0
+AsReplied m r = Gives r (m .former) (m .number) (m .length) (m .answer) (m .register)
 
 -- ---- the second half: twins. "Registers and answers are compared with both fields, their lengths and presence taken as zero"
 
@@ -69,12 +66,6 @@ pub record Alike (m m′ : Made) : Type 0 where
   pub answer : masked m ≡ masked m′
   pub register : maskRegister (m .register) ≡ maskRegister (m′ .register)
 
-abbrev pub AllAlike : List Made → List Made → Type 0
-AllAlike [] [] = Unit {0}
-AllAlike [] (m′ ∷ l′) = ⊥
-AllAlike (m ∷ l) [] = ⊥
-AllAlike (m ∷ l) (m′ ∷ l′) = Alike m m′ × AllAlike l l′
-
 -- what slices hold is bytes
 abbrev pub AllOctets : List Made → Type 0
 AllOctets [] = Unit {0}
@@ -84,8 +75,8 @@ AllOctets (m ∷ l) = Octets (m .call) × AllOctets l
 
 pub record Claim : Type 0 where
   -- every list of calls on a fresh register gives at every place what the definition gives
-  pub replied : (a h e : ℕ) (b : Bytes) (l : List Made) → Fresh a h e b → Trace b l → AsReplied l (run (map asked l) b)
+  pub replied : (a h e : ℕ) (b : Bytes) (l : List Made) → Fresh a h e b → Trace b l → AtEach AsReplied l (run (map asked l) b)
   -- twins on fresh registers of the same limits give the same at every place, texts and details taken as zero
   pub twins :
       (a h e : ℕ) (b b′ : Bytes) (l l′ : List Made) → Fresh a h e b → Fresh a h e b′ → AllOctets l → AllOctets l′ → Trace b l → Trace b′ l′ →
-      TwinLists (map asked l) (map asked l′) → AllAlike l l′
+      TwinLists (map asked l) (map asked l′) → AtEach Alike l l′

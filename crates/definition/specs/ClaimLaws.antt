@@ -23,6 +23,7 @@ use Rattle.definition.specs.StepLaws.{lists}
 use Rattle.definition.specs.KindLaws.{Kind, kind, refuses, call-kind}
 use Rattle.definition.specs.PerformLaws.{listing}
 use Rattle.definition.specs.Fields.{LegalCall}
+use Rattle.definition.specs.ReadLaws.{call-legal}
 use Rattle.definition.specs.FieldLaws.{LegalStation, Answered, perform-legal, fresh-legalStation}
 use Rattle.definition.specs.Sound.{freeRecord, bookOf, encode, sound}
 use Rattle.definition.specs.SoundLaws.{legal-reads, legal-sound}
@@ -33,16 +34,16 @@ use Rattle.definition.specs.MaskLaws.{mask-encode}
 use Rattle.definition.specs.MaskAnswerLaws.{mask-answer}
 use Rattle.definition.specs.Mask.{maskRegister, maskAnswer, listsRecords}
 use Rattle.definition.specs.Lists.{Reply, replyOf, stepOf, run}
-use Rattle.definition.specs.Twins.{TwinCall, equal, raises, TwinLists}
+use Rattle.definition.specs.Twins.{TwinCall, equal, raises, AtEach, TwinLists}
 use Rattle.definition.specs.TwinReadLaws.{twins-read}
-use Rattle.definition.specs.Claim.{Fresh, Gives, Made, Trace, asked, AsReplied, Alike, AllAlike, AllOctets, Claim}
+use Rattle.definition.specs.Claim.{Fresh, Gives, Made, Trace, asked, AsReplied, Alike, AllOctets, Claim}
 
 -- ---- the first half: each call starts from the register that the definition keeps
 
-replied : (b : Bytes) (l : List Made) → Trace b l → AsReplied l (run (map asked l) b)
+replied : (b : Bytes) (l : List Made) → Trace b l → AtEach AsReplied l (run (map asked l) b)
 unfolding run
 replied b [] t = tt
-replied b (m ∷ l) t = (t .0, subst (λ (c : Bytes). AsReplied l (run (map asked l) c)) (t .0 .register-is) (replied (m .register) l (t .1)))
+replied b (m ∷ l) t = (t .0, subst (λ (c : Bytes). AtEach AsReplied l (run (map asked l) c)) (t .0 .register-is) (replied (m .register) l (t .1)))
 
 -- ---- a fresh register is a legal station's
 
@@ -157,40 +158,40 @@ module _ (m m′ : Made) (q q′ : Reply) (g : Gives q (m .former) (m .number) (
         register = twin-register (m .register) (m′ .register) made-register;
       }
 
--- what parseCall gives is legal
-module _ (call-legal : (b : Bytes) → Octets b → LegalCall (parseCall b)) where
-  good-call : (c : Bytes) (n : ℕ) (s : Station) → Octets c → LegalStation s → Good (getD c 0 0) (perform (parseCall c) n s)
-  good-call c n s o l = good (getD c 0 0) n s (call-kind c) (call-legal c o) l
+-- ---- twin lists, call by call
 
-  twin-step : (b b′ c c′ : Bytes) (n n′ : ℕ) → Twin b b′ → Octets c → Octets c′ → TwinCall c c′ → n ≡ n′ → TwinReply (getD c 0 0) (stepOf b c n) (stepOf b′ c′ n′)
-  twin-step b b′ c c′ n n′ t o o′ w e =
-      let s = t .one in
-      let s′ = t .two in
-      let alike : blankOutcome blankAnswer (perform (parseCall c) n s) ≡ blankOutcome blankAnswer (perform (parseCall c′) n s′) =
-      sym (perform-blind (parseCall c) n .sees s) ∙ ap₂ (λ (x : CallValue) (y : Station). perform x n y) (twins-read c c′ w) (t .same) ∙ perform-blind (parseCall c′) n .sees s′ in
-      rw (← e, step-legal b s c n (t .legal-one) (t .is-one), step-legal b′ s′ c′ n (t .legal-two) (t .is-two))
-      (twin-reply (getD c 0 0) b b′ t (perform (parseCall c) n s) (perform (parseCall c′) n s′) (good-call c n s o (t .legal-one))
-      (rw (same-op c c′ w) (good-call c′ n s′ o′ (t .legal-two))) alike)
+good-call : (c : Bytes) (n : ℕ) (s : Station) → Octets c → LegalStation s → Good (getD c 0 0) (perform (parseCall c) n s)
+good-call c n s o l = good (getD c 0 0) n s (call-kind c) (call-legal c o) l
 
-  twins : (b b′ : Bytes) (l l′ : List Made) → Twin b b′ → AllOctets l → AllOctets l′ → Trace b l → Trace b′ l′ → TwinLists (map asked l) (map asked l′) → AllAlike l l′
-  twins b b′ [] [] t o o′ x y w = tt
-  twins b b′ [] (m ∷ l) t o o′ x y w = w
-  twins b b′ (m ∷ l) [] t o o′ x y w = w
-  twins b b′ (m ∷ l) (m′ ∷ l′) t o o′ x y w =
-      let r = twin-step b b′ (m .call) (m′ .call) (length (m .former)) (length (m′ .former)) t (o .0) (o′ .0) (w .1) (w .0) in (
-        made-alike m m′ _ _ (x .0) (y .0) r (same-op (m .call) (m′ .call) (w .1)),
-        twins (m .register) (m′ .register) l l′ (made-register m m′ _ _ (x .0) (y .0) r) (o .1) (o′ .1) (x .1) (y .1) (w .2),
-      )
+twin-step : (b b′ c c′ : Bytes) (n n′ : ℕ) → Twin b b′ → Octets c → Octets c′ → TwinCall c c′ → n ≡ n′ → TwinReply (getD c 0 0) (stepOf b c n) (stepOf b′ c′ n′)
+twin-step b b′ c c′ n n′ t o o′ w e =
+    let s = t .one in
+    let s′ = t .two in
+    let alike : blankOutcome blankAnswer (perform (parseCall c) n s) ≡ blankOutcome blankAnswer (perform (parseCall c′) n s′) =
+    sym (perform-blind (parseCall c) n .sees s) ∙ ap₂ (λ (x : CallValue) (y : Station). perform x n y) (twins-read c c′ w) (t .same) ∙ perform-blind (parseCall c′) n .sees s′ in
+    rw (← e, step-legal b s c n (t .legal-one) (t .is-one), step-legal b′ s′ c′ n (t .legal-two) (t .is-two))
+    (twin-reply (getD c 0 0) b b′ t (perform (parseCall c) n s) (perform (parseCall c′) n s′) (good-call c n s o (t .legal-one))
+    (rw (same-op c c′ w) (good-call c′ n s′ o′ (t .legal-two))) alike)
 
-  fresh-twin : (a h e : ℕ) (b b′ : Bytes) → Fresh a h e b → Fresh a h e b′ → Twin b b′
-  fresh-twin a h e b b′ f f′ =
-      let p = opened-fresh a h e b f in
-      let q = opened-fresh a h e b′ f′ in
-      record { one = fresh a h e; two = fresh a h e; legal-one = p .0; legal-two = p .0; is-one = p .1; is-two = q .1; same = refl }
+twins : (b b′ : Bytes) (l l′ : List Made) → Twin b b′ → AllOctets l → AllOctets l′ → Trace b l → Trace b′ l′ → TwinLists (map asked l) (map asked l′) → AtEach Alike l l′
+twins b b′ [] [] t o o′ x y w = tt
+twins b b′ [] (m ∷ l) t o o′ x y w = w
+twins b b′ (m ∷ l) [] t o o′ x y w = w
+twins b b′ (m ∷ l) (m′ ∷ l′) t o o′ x y w =
+    let r = twin-step b b′ (m .call) (m′ .call) (length (m .former)) (length (m′ .former)) t (o .0) (o′ .0) (w .0 .1) (w .0 .0) in (
+      made-alike m m′ _ _ (x .0) (y .0) r (same-op (m .call) (m′ .call) (w .0 .1)),
+      twins (m .register) (m′ .register) l l′ (made-register m m′ _ _ (x .0) (y .0) r) (o .1) (o′ .1) (x .1) (y .1) (w .1),
+    )
 
-  pub claim : Claim
-  claim =
-      record {
-        replied = λ a h e b l f t. replied b l t;
-        twins = λ a h e b b′ l l′ f f′ o o′ t t′ w. twins b b′ l l′ (fresh-twin a h e b b′ f f′) o o′ t t′ w;
-      }
+fresh-twin : (a h e : ℕ) (b b′ : Bytes) → Fresh a h e b → Fresh a h e b′ → Twin b b′
+fresh-twin a h e b b′ f f′ =
+    let p = opened-fresh a h e b f in
+    let q = opened-fresh a h e b′ f′ in
+    record { one = fresh a h e; two = fresh a h e; legal-one = p .0; legal-two = p .0; is-one = p .1; is-two = q .1; same = refl }
+
+pub claim : Claim
+claim =
+    record {
+      replied = λ a h e b l f t. replied b l t;
+      twins = λ a h e b b′ l l′ f f′ o o′ t t′ w. twins b b′ l l′ (fresh-twin a h e b b′ f f′) o o′ t t′ w;
+    }

@@ -39,9 +39,17 @@ pub data TwinCall (b b′ : Bytes) : Type 0 where
   equal : b ≡ b′ → TwinCall b b′
   raises : TwinRaises b b′ → TwinCall b b′
 
--- "Twins have equally many calls. At each place the answer lengths are equal, and the calls are too, or .."
+-- equally many, and R at each place
+abbrev pub AtEach : {A B : Type 0} → (A → B → Type 0) → List A → List B → Type 0
+AtEach R [] [] = Unit {0}
+AtEach R [] (q ∷ m) = ⊥
+AtEach R (p ∷ l) [] = ⊥
+AtEach R (p ∷ l) (q ∷ m) = R p q × AtEach R l m
+
+-- "At each place the answer lengths are equal, and the calls are too, or .."
+abbrev pub TwinPlaces : Bytes × ℕ → Bytes × ℕ → Type 0
+TwinPlaces p q = (p .1 ≡ q .1) × TwinCall (p .0) (q .0)
+
+-- "Twins have equally many calls"
 abbrev pub TwinLists : List (Bytes × ℕ) → List (Bytes × ℕ) → Type 0
-TwinLists [] [] = Unit {0}
-TwinLists [] (q ∷ m) = ⊥
-TwinLists (p ∷ l) [] = ⊥
-TwinLists (p ∷ l) (q ∷ m) = (p .1 ≡ q .1) × TwinCall (p .0) (q .0) × TwinLists l m
+TwinLists = AtEach TwinPlaces
