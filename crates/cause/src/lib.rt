@@ -32,7 +32,7 @@ fn is_dotted(s: &[u8]) -> bool
             dot = true;
             i += 1;
         } else {
-            if white::space_len(&s[i..]) != 0 {
+            if white::space_at(s, i) != 0 {
                 return false;
             }
             open = true;
@@ -57,10 +57,10 @@ fn other(s: &[u8]) -> Cause
     requires { ⌜ oneOf names (now s) ≡ false ⌝ }
     ensures { λ r. ⌜ (causeValue (now (s .entry)) r ≡ causeOf (now (s .entry))) × causeFits (now (s .entry)) r ⌝ }
 {
-    if !octets::starts(s, b"other:") {
+    if s.len() < 6 {
         return Cause::No;
     }
-    if s.len() < 6 {
+    if !octets::starts(s, b"other:") {
         return Cause::No;
     }
     let a = white::trim_start(&s[6..]) + 6;
@@ -88,10 +88,10 @@ fn other_stored(s: &[u8]) -> bool
     requires { ⌜ oneOf names (now s) ≡ false ⌝ }
     ensures { λ r. ⌜ r ≡ stored (now (s .entry)) ⌝ }
 {
-    if !octets::starts(s, b"other:") {
+    if s.len() < 6 {
         return false;
     }
-    if s.len() < 6 {
+    if !octets::starts(s, b"other:") {
         return false;
     }
     is_dotted(&s[6..])

@@ -1,7 +1,7 @@
 // White space in UTF-8, and a string without it at both ends.
 ghost use mathlib.Core.Path.{_≡_};
 ghost use mathlib.Core.List.{[], _∷_};
-ghost use Prim.Native.Nat.{_<_, _≤_};
+ghost use Prim.Native.Nat.{_+_, _≤_, _<_};
 ghost use lib.ListN.{getD, length, take, drop};
 ghost use Rattle.definition.specs.White.{space, startFrom, endFrom};
 
@@ -135,10 +135,18 @@ fn space1(a: u8, b: u8, c: u8) -> usize
 }
 
 // How many bytes of white space s begins with: one character's, or 0.
-pub fn space_len(s: &[u8]) -> usize
+fn space_len(s: &[u8]) -> usize
     ensures { λ r. ⌜ r ≡ space (now (s .entry)) ⌝ }
 {
     space3(byte_at(s, 0), byte_at(s, 1), byte_at(s, 2))
+}
+
+// How many bytes of white space stand in s at i.
+pub fn space_at(s: &[u8], i: usize) -> usize
+    requires { ⌜ i ≤ length (now s) ⌝ }
+    ensures { λ r. ⌜ (r ≡ space (drop i (now (s .entry)))) × (i + r ≤ length (now (s .entry))) ⌝ }
+{
+    space_len(&s[i..])
 }
 
 // The place at which s starts without the white space at its start.
@@ -147,7 +155,7 @@ pub fn trim_start(s: &[u8]) -> usize
 {
     let mut i = 0;
     while i < s.len() {
-        let n = space_len(&s[i..]);
+        let n = space_at(s, i);
         if n == 0 {
             return i;
         }
@@ -163,7 +171,7 @@ pub fn trim_end(s: &[u8]) -> usize
     let mut i = 0;
     let mut end = 0;
     while i < s.len() {
-        let n = space_len(&s[i..]);
+        let n = space_at(s, i);
         if n == 0 {
             i += 1;
             end = i;

@@ -6,7 +6,6 @@ use native.Mathlib.Omega.{arith}
 use borrow.Author.Tests.{not-true, not-false}
 use lib.ListN.{length, drop}
 use Rattle.definition.specs.Cause.{dotted}
-use Rattle.cause.proofs.Trim.{space-part}
 use Rattle.cause.proofs.Dotted.{scan, scan-dotted, scan-dot, scan-plain, scan-space, scan-end}
 use borrow.Author.Needs.{needs}
 use Rattle.cause.proofs.is_dotted.Statement.{statement}
@@ -35,17 +34,13 @@ loop-again c =
 
 returns-2 : tie.Need-returns-2 Inv-loop μ-loop
 returns-2 c =
-    let l = c .before .before .before .before .before .before .loop in
-    let s = c .before .before .before .before .before .before .before .before .args .s .now in
-    let p = space-part s (l .i) (c .before .space-len .result) (omega arith) (c .before .space-len .ensures) in
-    sym (scan-space s (l .i) (l .«open») (l .dot) (omega arith) (c .before .before .before .if1 .left) (λ e. c .if3 .taken (p .0 ∙ e))) ∙ l .inv .1
+    let l = c .before .before .before .before .before .loop in
+    sym (scan-space _ (l .i) (l .«open») (l .dot) (omega arith) (c .before .before .if1 .left) (λ e. c .if3 .taken (c .before .space-at .ensures .0 ∙ e))) ∙ l .inv .1
 
 loop-again-2 : tie.Need-loop-again-2 Inv-loop μ-loop
 loop-again-2 c =
-    let l = c .before .before .before .before .before .before .loop in
-    let s = c .before .before .before .before .before .before .before .before .args .s .now in
-    let p = space-part s (l .i) (c .before .space-len .result) (omega arith) (c .before .space-len .ensures) in
-    (omega arith, sym (scan-plain s (l .i) (l .«open») (l .dot) (omega arith) (c .before .before .before .if1 .left) (sym (p .0) ∙ c .if3 .left)) ∙ l .inv .1)
+    let l = c .before .before .before .before .before .loop in
+    (search needs, sym (scan-plain _ (l .i) (l .«open») (l .dot) (omega arith) (c .before .before .if1 .left) (sym (c .before .space-at .ensures .0) ∙ c .if3 .left)) ∙ l .inv .1)
 
 returns-3 : tie.Need-returns-3 Inv-loop μ-loop
 returns-3 c =
@@ -69,9 +64,6 @@ is-dotted-spec =
     (λ c. search needs)
     (λ c. search needs)
     loop-again
-    (λ c. search needs)
-    (λ c. search needs)
-    (λ c. search needs)
     (λ c κs. search needs)
     returns-2
     (λ c. search needs)

@@ -7,34 +7,42 @@ use Rattle.cause.proofs.other.Statement.{statement}
 use Rattle.cause.proofs.other.Tie as tie
 
 returns : tie.Need-returns
-returns c = (not-other _ (c .before .before .before .before .pre) (sym (c .before .starts .ensures) ∙ not-true _ (c .if1 .taken)), tt)
+returns c = (too-short _ (c .before .before .pre) (c .if1 .taken), tt)
 
 returns-2 : tie.Need-returns-2
-returns-2 c = (too-short _ (c .before .before .before .before .before .pre) (c .if2 .taken), tt)
+returns-2 c = (not-other _ (c .before .before .before .before .before .pre) (sym (c .before .starts .ensures) ∙ not-true _ (c .if2 .taken)), tt)
 
 returns-3 : tie.Need-returns-3
-returns-3 c = (
-  other-yes _ (c .before .before .before .before .before .before .before .before .before .before .before .before .pre) (c .before .before .before .before .before .trim-start .result) (c .before .before .before .trim-end .result)
-      (sym (c .before .before .before .before .before .before .before .before .before .starts .ensures) ∙ not-false _ (c .before .before .before .before .before .before .before .before .if1 .left))
-      (c .before .before .before .before .before .trim-start .ensures .1) (c .before .before .before .trim-end .ensures .1) (sym (c .if3 .taken) ∙ c .before .is-dotted .ensures),
-  search needs,
-)
+returns-3 c =
+    let d = c .before in
+    let n = d .before .before in
+    let m = n .before .before in
+    let o = m .before .before in (
+      other-yes _ (o .before .before .before .before .before .pre) (m .trim-start .result) (n .trim-end .result)
+          (sym (o .before .starts .ensures) ∙ not-false _ (o .if2 .left)) (m .trim-start .ensures .1) (n .trim-end .ensures .1)
+          (sym (c .if3 .taken) ∙ d .is-dotted .ensures),
+      search needs,
+    )
 
 returns-4 : tie.Need-returns-4
-returns-4 c = (
-  other-no _ (c .before .before .before .before .before .before .before .before .before .before .before .before .pre) (c .before .before .before .before .before .trim-start .result) (c .before .before .before .trim-end .result)
-      (sym (c .before .before .before .before .before .before .before .before .before .starts .ensures) ∙ not-false _ (c .before .before .before .before .before .before .before .before .if1 .left))
-      (c .before .before .before .before .before .trim-start .ensures .1) (c .before .before .before .trim-end .ensures .1) (sym (c .if3 .left) ∙ c .before .is-dotted .ensures),
-  tt,
-)
+returns-4 c =
+    let d = c .before in
+    let n = d .before .before in
+    let m = n .before .before in
+    let o = m .before .before in (
+      other-no _ (o .before .before .before .before .before .pre) (m .trim-start .result) (n .trim-end .result)
+          (sym (o .before .starts .ensures) ∙ not-false _ (o .if2 .left)) (m .trim-start .ensures .1) (n .trim-end .ensures .1)
+          (sym (c .if3 .left) ∙ d .is-dotted .ensures),
+      tt,
+    )
 
 pub other-spec : {M : Type 1} → statement M
 other-spec =
     tie.close
     (tie.spec
+    returns
     (λ c. search needs)
     (λ c κs. search needs)
-    returns
     returns-2
     (λ c. search needs)
     (λ c. search needs)

@@ -10,23 +10,33 @@ use Rattle.cause.proofs.white.space1.Tie as tie
 
 returns : tie.Need-returns
 unfolding space frontOf begins
-returns c = eq-on (λ (x : ℕ). space (x ∷ c .before .args .b ∷ c .before .args .c ∷ [])) 0 9 0 tt (c .before .args .a) (omega arith) (omega arith)
+returns c =
+    let a = c .before .args in
+    eq-on (λ (x : ℕ). space (x ∷ a .b ∷ a .c ∷ [])) 0 9 0 tt (a .a) (omega arith) (omega arith)
 
 returns-2 : tie.Need-returns-2
 unfolding space frontOf begins
-returns-2 c = eq-on (λ (x : ℕ). space (x ∷ c .before .before .args .b ∷ c .before .before .args .c ∷ [])) 1 5 9 tt (c .before .before .args .a) (omega arith) (omega arith)
+returns-2 c =
+    let a = c .before .before .args in
+    eq-on (λ (x : ℕ). space (x ∷ a .b ∷ a .c ∷ [])) 1 5 9 tt (a .a) (omega arith) (omega arith)
 
 returns-3 : tie.Need-returns-3
 unfolding space frontOf begins
-returns-3 c = eq-on (λ (x : ℕ). space (x ∷ c .before .before .before .args .b ∷ c .before .before .before .args .c ∷ [])) 0 18 14 tt (c .before .before .before .args .a) (omega arith) (omega arith)
+returns-3 c =
+    let a = c .before .before .before .args in
+    eq-on (λ (x : ℕ). space (x ∷ a .b ∷ a .c ∷ [])) 0 18 14 tt (a .a) (omega arith) (omega arith)
 
 returns-4 : tie.Need-returns-4
 unfolding space frontOf begins
-returns-4 c = eq-on (λ (x : ℕ). space (x ∷ c .before .before .before .before .args .b ∷ c .before .before .before .before .args .c ∷ [])) 1 1 32 tt (c .before .before .before .before .args .a) (omega arith) (omega arith)
+returns-4 c =
+    let a = c .before .before .before .before .args in
+    eq-on (λ (x : ℕ). space (x ∷ a .b ∷ a .c ∷ [])) 1 1 32 tt (a .a) (omega arith) (omega arith)
 
 returns-5 : tie.Need-returns-5
 unfolding space frontOf begins
-returns-5 c = eq-on (λ (x : ℕ). space (x ∷ c .before .before .before .before .args .b ∷ c .before .before .before .before .args .c ∷ [])) 0 161 33 tt (c .before .before .before .before .args .a) (omega arith) (omega arith)
+returns-5 c =
+    let a = c .before .before .before .before .args in
+    eq-on (λ (x : ℕ). space (x ∷ a .b ∷ a .c ∷ [])) 0 161 33 tt (a .a) (omega arith) (omega arith)
 
 pub space1-spec : {M : Type 1} → statement M
 space1-spec = tie.close (tie.spec returns returns-2 returns-3 returns-4 returns-5)

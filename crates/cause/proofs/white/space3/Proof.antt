@@ -14,7 +14,9 @@ returns-2 c = rw (c .before .if3 .taken) (c .space-c2 .ensures)
 
 returns-3 : tie.Need-returns-3
 unfolding space frontOf begins
-returns-3 c = eq-on (λ (x : ℕ). space (x ∷ c .before .before .before .args .b ∷ c .before .before .before .args .c ∷ [])) 0 30 195 tt (c .before .before .before .args .a) (omega arith) (omega arith)
+returns-3 c =
+    let a = c .before .before .before .args in
+    eq-on (λ (x : ℕ). space (x ∷ a .b ∷ a .c ∷ [])) 0 30 195 tt (a .a) (omega arith) (omega arith)
 
 returns-4 : tie.Need-returns-4
 returns-4 c = rw (c .before .if4 .taken) (c .space-e1 .ensures)
@@ -27,7 +29,9 @@ returns-6 c = rw (c .before .if6 .taken) (c .space-e3 .ensures)
 
 returns-7 : tie.Need-returns-7
 unfolding space frontOf begins
-returns-7 c = eq-on (λ (x : ℕ). space (x ∷ c .before .before .before .before .before .args .b ∷ c .before .before .before .before .before .args .c ∷ [])) 0 28 228 tt (c .before .before .before .before .before .args .a) (omega arith) (omega arith)
+returns-7 c =
+    let a = c .before .before .before .before .before .args in
+    eq-on (λ (x : ℕ). space (x ∷ a .b ∷ a .c ∷ [])) 0 28 228 tt (a .a) (omega arith) (omega arith)
 
 pub space3-spec : {M : Type 1} → statement M
 space3-spec =

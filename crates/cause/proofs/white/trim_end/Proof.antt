@@ -4,7 +4,7 @@ use Prim.Native.Nat.{_-_, _≤_}
 use native.Mathlib.Omega.{arith}
 use lib.ListN.{length}
 use Rattle.definition.specs.White.{endFrom}
-use Rattle.cause.proofs.Trim.{space-part, end-step, up-none, up-plain, up-end, upTo}
+use Rattle.cause.proofs.Trim.{end-step, up-none, up-plain, up-end, upTo}
 use borrow.Author.Needs.{needs}
 use Rattle.cause.proofs.white.trim_end.Statement.{statement}
 use Rattle.cause.proofs.white.trim_end.Tie as tie
@@ -20,31 +20,17 @@ loop-holds c = (search needs, search needs, up-none _)
 
 loop-again : tie.Need-loop-again Inv-loop μ-loop
 loop-again c =
-    let l = c .before .before .before .before .loop in
-    let s = c .before .before .before .before .before .before .args .s .now in
-    let p = space-part s (l .i) (c .before .space-len .result) (omega arith) (c .before .space-len .ensures) in
-    (omega arith, omega arith, l .inv .2 ∙ up-plain s (l .end) (l .i) (omega arith) (omega arith) (omega arith) (sym (p .0) ∙ c .if1 .taken))
-
-add-i-2 : tie.Need-add-i-2 Inv-loop μ-loop
-add-i-2 c =
-    let l = c .before .before .before .before .loop in
-    let s = c .before .before .before .before .before .before .args .s .now in
-    let p = space-part s (l .i) (c .before .space-len .result) (omega arith) (c .before .space-len .ensures) in
-    omega arith
-
-loop-less-2 : tie.Need-loop-less-2 Inv-loop μ-loop
-loop-less-2 c =
-    let l = c .before .before .before .before .loop in
-    let s = c .before .before .before .before .before .before .args .s .now in
-    let p = space-part s (l .i) (c .before .space-len .result) (omega arith) (c .before .space-len .ensures) in
-    omega arith
+    let l = c .before .before .before .loop in (
+      search needs,
+      search needs,
+      l .inv .2 ∙ up-plain _ (l .end) (l .i) (omega arith) (omega arith) (omega arith) (sym (c .before .space-at .ensures .0) ∙ c .if1 .taken),
+    )
 
 loop-again-2 : tie.Need-loop-again-2 Inv-loop μ-loop
 loop-again-2 c =
-    let l = c .before .before .before .before .loop in
-    let s = c .before .before .before .before .before .before .args .s .now in
-    let p = space-part s (l .i) (c .before .space-len .result) (omega arith) (c .before .space-len .ensures) in
-    (omega arith, omega arith, l .inv .2 ∙ end-step s (l .i) _ (p .0) (c .if1 .left) (l .end) (omega arith) (omega arith))
+    let l = c .before .before .before .loop in
+    let n = c .before .space-at .ensures in
+    (search needs, search needs, l .inv .2 ∙ end-step _ (l .i) _ (n .0) (c .if1 .left) (l .end) (omega arith) (n .1))
 
 returns : tie.Need-returns Inv-loop μ-loop
 returns c =
@@ -58,14 +44,11 @@ trim-end-spec =
     Inv-loop
     μ-loop
     loop-holds
-    (λ c. search needs)
-    (λ c. search needs)
-    (λ c. search needs)
     (λ c κs. search needs)
     (λ c. search needs)
     (λ c. search needs)
     loop-again
-    add-i-2
-    loop-less-2
+    (λ c. search needs)
+    (λ c. search needs)
     loop-again-2
     returns)

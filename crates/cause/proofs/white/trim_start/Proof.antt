@@ -5,7 +5,7 @@ use native.Mathlib.Omega.{arith}
 use lib.ListN.{length, drop}
 use Rattle.definition.specs.White.{startFrom}
 use Rattle.definition.specs.WhiteLaws.{start-plain}
-use Rattle.cause.proofs.Trim.{space-part, start-step, start-end}
+use Rattle.cause.proofs.Trim.{start-step, start-end}
 use borrow.Author.Needs.{needs}
 use Rattle.cause.proofs.white.trim_start.Statement.{statement}
 use Rattle.cause.proofs.white.trim_start.Tie as tie
@@ -18,31 +18,13 @@ abbrev μ-loop : tie.MeasureT-loop
 
 returns : tie.Need-returns Inv-loop μ-loop
 returns c =
-    let l = c .before .before .before .before .loop in
-    let s = c .before .before .before .before .before .before .args .s .now in
-    let p = space-part s (l .i) (c .before .space-len .result) (omega arith) (c .before .space-len .ensures) in
-    (omega arith, sym (l .inv .1) ∙ start-plain (drop (l .i) s) (sym (p .0) ∙ c .if1 .taken))
-
-add-i : tie.Need-add-i Inv-loop μ-loop
-add-i c =
-    let l = c .before .before .before .before .loop in
-    let s = c .before .before .before .before .before .before .args .s .now in
-    let p = space-part s (l .i) (c .before .space-len .result) (omega arith) (c .before .space-len .ensures) in
-    omega arith
-
-loop-less : tie.Need-loop-less Inv-loop μ-loop
-loop-less c =
-    let l = c .before .before .before .before .loop in
-    let s = c .before .before .before .before .before .before .args .s .now in
-    let p = space-part s (l .i) (c .before .space-len .result) (omega arith) (c .before .space-len .ensures) in
-    omega arith
+    let l = c .before .before .before .loop in
+    (omega arith, sym (l .inv .1) ∙ start-plain _ (sym (c .before .space-at .ensures .0) ∙ c .if1 .taken))
 
 loop-again : tie.Need-loop-again Inv-loop μ-loop
 loop-again c =
-    let l = c .before .before .before .before .loop in
-    let s = c .before .before .before .before .before .before .args .s .now in
-    let p = space-part s (l .i) (c .before .space-len .result) (omega arith) (c .before .space-len .ensures) in
-    (omega arith, start-step s (l .i) _ (p .0) (c .if1 .left) ∙ l .inv .1)
+    let l = c .before .before .before .loop in
+    (search needs, start-step _ (l .i) _ (c .before .space-at .ensures .0) (c .if1 .left) ∙ l .inv .1)
 
 returns-2 : tie.Need-returns-2 Inv-loop μ-loop
 returns-2 c =
@@ -56,12 +38,9 @@ trim-start-spec =
     Inv-loop
     μ-loop
     (λ c. search needs)
-    (λ c. search needs)
-    (λ c. search needs)
-    (λ c. search needs)
     (λ c κs. search needs)
     returns
-    add-i
-    loop-less
+    (λ c. search needs)
+    (λ c. search needs)
     loop-again
     returns-2)
