@@ -5,7 +5,7 @@ use mathlib.Core.Bool.{Bool, true, false, cond}
 use Prim.Native.Nat.{ℕ, zero, suc, _+_, _-_, _*_, _/_, _%_, _≤_, _<_}
 use native.Mathlib.Omega.{arith}
 use lib.Dec.{ltb}
-use lib.ListN.{length, drop, length-append, length-take}
+use lib.ListN.{length, drop, length-append}
 use Rattle.octets.specs.Bytes.{Bytes, digits, be32}
 use Rattle.octets.specs.NumberLaws.{length-be32, Octets, octets-tail, octets-take}
 use Rattle.fips180.specs.Sha256.{padded, blocksOf, digestOf, sha256Of}
@@ -98,10 +98,6 @@ unfolding digits
 digits-octets zero v i = omega arith
 digits-octets (suc n) v i = octets-append (digits n (v / 256)) (v % 256 ∷ []) (digits-octets n (v / 256)) (octets-one (v % 256) (omega arith)) i
 
-length-digest : (m : Bytes) → length (sha256Of m) ≡ 32
-unfolding sha256Of digestOf
-length-digest m = simp (length-append, length-be32)
-
 -- words of four bytes behind s
 abbrev words : Bytes → List ℕ → Bytes
 words s [] = s
@@ -118,8 +114,8 @@ digest-octets m =
     words-octets (be32 (s .a)) (s .b ∷ s .c ∷ s .d ∷ s .e ∷ s .f ∷ s .g ∷ s .h ∷ []) (digits-octets 4 (s .a))
 
 pub length-key : (type : Bytes) (k : KeyValue) → length (keyOf type k) ≡ 16
-unfolding keyOf
-length-key type k = omega (arith, length-take 16 (sha256Of (fed type k)), length-digest (fed type k))
+unfolding keyOf sha256Of digestOf digits
+length-key type k = refl
 
 pub key-octets : (type : Bytes) (k : KeyValue) → Octets (keyOf type k)
 unfolding keyOf
