@@ -15,7 +15,7 @@ use Rattle.definition.specs.AnswerLaws.{length-alarmRecord, length-alarm
 use Rattle.definition.specs.ChainLaws.{length-map}
 use Rattle.definition.specs.StepLaws.{lists}
 use Rattle.definition.specs.Blank.{blank, blankAnswer}
-use Rattle.definition.specs.Mask.{maskRecord, maskRecords, listsRecords, holdsRecord, maskAnswer}
+use Rattle.definition.specs.Mask.{textsAt, textsWidth, maskRecord, maskRecords, listsRecords, holdsRecord, maskAnswer}
 use Rattle.definition.specs.MaskLaws.{mask-payload}
 
 length-head : (h : Head) → length (headBytes h) ≡ 16
@@ -24,18 +24,18 @@ length-head h = refl
 
 -- ---- records behind some bytes
 
-mask-alarmRecord : (a : Alarm) → splice (alarmRecord a) 678 (zeros 773) ≡ alarmRecord (blank a)
+mask-alarmRecord : (a : Alarm) → splice (alarmRecord a) textsAt (zeros textsWidth) ≡ alarmRecord (blank a)
 mask-alarmRecord a =
-    ap (λ (k : ℕ). splice (alarmRecord a) (k + 674) (zeros 773)) (sym (length-be32 0))
-    ∙ splice-append (be32 0) (alarmBytes a) 674 (zeros 773)
+    ap (λ (k : ℕ). splice (alarmRecord a) (k + 674) (zeros textsWidth)) (sym (length-be32 0))
+    ∙ splice-append (be32 0) (alarmBytes a) 674 (zeros textsWidth)
     ∙ ap (λ (p : Bytes). be32 0 ++ p) (mask-payload a)
 
 mask-behind : (h : Bytes) (a : Alarm) (r : Bytes) → maskRecord (length h) (h ++ (alarmRecord a ++ r)) ≡ h ++ (alarmRecord (blank a) ++ r)
 unfolding maskRecord
 mask-behind h a r =
-    splice-append h (alarmRecord a ++ r) 678 (zeros 773)
+    splice-append h (alarmRecord a ++ r) textsAt (zeros textsWidth)
     ∙ ap (λ (p : Bytes). h ++ p)
-    (splice-front (alarmRecord a) r 678 (zeros 773) (omega (arith, length-zeros 773, length-alarmRecord a)) ∙ ap (λ (p : Bytes). p ++ r) (mask-alarmRecord a))
+    (splice-front (alarmRecord a) r textsAt (zeros textsWidth) (omega (arith, length-zeros textsWidth, length-alarmRecord a)) ∙ ap (λ (p : Bytes). p ++ r) (mask-alarmRecord a))
 
 mask-records : (h : Bytes) (l : List Alarm) → maskRecords (length l) (length h) (h ++ alarmRecords l) ≡ h ++ alarmRecords (map blank l)
 unfolding maskRecords alarmRecords

@@ -28,7 +28,7 @@ use Rattle.definition.specs.Sound.{bookOf, encode}
 use Rattle.definition.specs.StationLaws.{book-legal}
 use Rattle.definition.specs.ChainLaws.{length-map}
 use Rattle.definition.specs.Blank.{blank, blankEntry, blankStation}
-use Rattle.definition.specs.Mask.{maskRecord, maskChain, maskRegister}
+use Rattle.definition.specs.Mask.{textsWidth, maskRecord, maskChain, maskRegister}
 
 -- ---- a splice within a part is a splice of the whole part
 
@@ -49,7 +49,7 @@ splice-within b k n m v h l =
 -- ---- a payload, and a chain of them
 
 abbrev pub maskPayload : Bytes → Bytes
-maskPayload p = splice p 674 (zeros 773)
+maskPayload p = splice p 674 (zeros textsWidth)
 
 -- zeros in the place of both fields are the alarm without them
 pub mask-payload : (a : Alarm) → maskPayload (alarmBytes a) ≡ alarmBytes (blank a)
@@ -83,15 +83,15 @@ module _ (x : ℕ) (hx : x < 3) where
     length-masked : length (maskPayload (e .content)) ≡ 1532
     length-masked =
         let h : length (e .content) ≡ 1532 = sized-back a (e ∷ t) sized .0 in
-        length-splice (e .content) 674 (zeros 773) (omega (arith, length-zeros 773)) ∙ h
+        length-splice (e .content) 674 (zeros textsWidth) (omega (arith, length-zeros textsWidth)) ∙ h
 
     mask-one : maskRecord (1536 * e .index) (bookBytes s) ≡ bookBytes (withChain x changed s)
     unfolding maskRecord
     mask-one =
         let k = 1536 * e .index + 4 in
         let r = index-range s (fair l) x x4 a e t is in
-        ap (λ (n : ℕ). splice (bookBytes s) n (zeros 773)) (omega arith)
-        ∙ splice-within (bookBytes s) k 1532 674 (zeros 773) (omega (arith, length-bytes s (fair l), r .1)) (omega (arith, length-zeros 773))
+        ap (λ (n : ℕ). splice (bookBytes s) n (zeros textsWidth)) (omega arith)
+        ∙ splice-within (bookBytes s) k 1532 674 (zeros textsWidth) (omega (arith, length-bytes s (fair l), r .1)) (omega (arith, length-zeros textsWidth))
         ∙ ap (λ (p : Bytes). splice (bookBytes s) k (maskPayload p)) (read-payload s l x x4 a e t is)
         ∙ replace-bytes s (fair l) x x4 a e t is (maskPayload (e .content)) length-masked
 
@@ -124,7 +124,7 @@ mask-append (e ∷ c) d b = mask-append c d _
 
 sized-masked : (c : List Record) → Sized c → Sized (map (onContent maskPayload) c)
 sized-masked [] h = tt
-sized-masked (e ∷ c) h = (length-splice (e .content) 674 (zeros 773) (omega (arith, length-zeros 773, h .0)) ∙ h .0, sized-masked c (h .1))
+sized-masked (e ∷ c) h = (length-splice (e .content) 674 (zeros textsWidth) (omega (arith, length-zeros textsWidth, h .0)) ∙ h .0, sized-masked c (h .1))
 
 times-masked : (c : List Record) (j : ℕ) → times j (map (onContent maskPayload) c) ≡ times j c
 unfolding times
