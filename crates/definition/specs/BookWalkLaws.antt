@@ -1,12 +1,17 @@
 -- Loops that follow links: what holds at each turn.
-use mathlib.Core.Path.{_≡_, sym, ap, _∙_, subst}
+use mathlib.Core.Path.{_≡_, sym, ap, ap₂, _∙_, subst, subst₂}
 use mathlib.Core.List.{List, [], _∷_}
 use Prim.Native.Nat.{ℕ, suc, _+_, _-_, _*_, _≤_, _<_}
 use native.Mathlib.Omega.{arith}
+use lib.ListN.{length}
 use Rattle.octets.specs.Bytes.{Bytes, at32}
-use Rattle.definition.specs.Book.{Record, recordOf, lastOf, walk}
+use Rattle.definition.specs.Book.{Record, recordOf, lastOf, chain, capacity, readBook, walk}
 use Rattle.definition.specs.BookSplitLaws.{lastFrom, last-from-zero}
+use Rattle.definition.specs.BookLegalLaws.{Sound}
+use Rattle.definition.specs.BookSoundLaws.{length-sound}
 use Rattle.definition.specs.BookCheckLaws.{Leads}
+use Rattle.definition.specs.BookSoundnessLaws.{chain-read}
+use Rattle.definition.specs.BookCompleteLaws.{sound-checked}
 
 more : (n k : ℕ) → k < n → n - k ≡ suc (n - (k + 1))
 more n k h = omega arith
@@ -50,6 +55,21 @@ module _ {A : Type 0} (f : ℕ → List Record → A) (b : Bytes) (m n i : ℕ) 
     pub along-end : n ≤ k → f q [] ≡ f 0 (walk b n i)
     unfolding walk
     along-end h = ap (λ (r : ℕ). f q (walk b r at)) (sym (none n k h)) ∙ w .same
+
+-- ---- along chain x of a sound register: n and i are its length and its first record
+
+module _ {A : Type 0} (f : ℕ → List Record → A) (b : Bytes) (sound : Sound b) (n i : ℕ) where
+  pub chain-start : (x : ℕ) → x < 4 → n ≡ at32 b (16 + 8 * x) → i ≡ at32 b (12 + 8 * x) → Along f b (capacity (readBook b)) n i i 0 0
+  chain-start x h hn hi =
+      along-start f b (capacity (readBook b)) n i
+      (subst₂ (λ (m j : ℕ). Leads b (capacity (readBook b)) m j) (sym hn) (sym hi) (sound-checked b sound .chained .leads x h))
+
+  pub chain-whole : (x : ℕ) → x < 4 → n ≡ at32 b (16 + 8 * x) → i ≡ at32 b (12 + 8 * x) → f 0 (walk b n i) ≡ f 0 (chain x (readBook b))
+  chain-whole x h hn hi = ap (f 0) (ap₂ (walk b) hn hi ∙ sym (chain-read b x h))
+
+  -- the record that the way is at lies in the register
+  pub chain-room : (at q k : ℕ) → Along f b (capacity (readBook b)) n i at q k → k < n → 1536 * at + 1536 ≤ length b
+  chain-room at q k w h = omega (arith, along-at f b (capacity (readBook b)) n i at q k w h .1, length-sound b sound)
 
 -- ---- along a way of which it is not known whether it ends
 

@@ -23,6 +23,7 @@ pub mod BookMoveLaws
 pub mod BookReadLaws
 pub mod BookMovedLaws
 pub mod BookSoundLaws
+pub mod BookCarryLaws
 pub mod BookAppendLaws
 pub mod BookReleaseLaws
 pub mod BookReplaceLaws

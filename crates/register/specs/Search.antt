@@ -1,0 +1,28 @@
+-- "Searches take the first match on the active chain."
+use Prim.Native.Nat.{ℕ}
+use mathlib.Core.List.{List, [], _∷_}
+use mathlib.Core.Bool.{Bool, cond}
+use Rattle.octets.specs.Bytes.{Bytes}
+use Rattle.definition.specs.Alarm.{hasKey, hasId}
+use Rattle.definition.specs.Record.{readAlarm}
+use Rattle.definition.specs.Book.{Record}
+use Rattle.register.specs.declared.By.{By}
+use Rattle.register.specs.declared.By.the-variants.{Key, Id}
+use Rattle.register.specs.declared.Found.{Found}
+use Rattle.register.specs.declared.Found.the-variants.{At, Nowhere}
+
+-- the alarm that a payload holds has the key k, or the id i
+abbrev pub holdsKey : Bytes → Bytes → Bool
+holdsKey k p = hasKey k (readAlarm p)
+
+abbrev pub holdsId : Bytes → Bytes → Bool
+holdsId i p = hasId i (readAlarm p)
+
+abbrev pub testOf : By → Bytes → Bytes → Bool
+testOf Key = holdsKey
+testOf Id = holdsId
+
+-- the index of the first record of a chain whose payload passes a test, and the index before it (q before the first)
+unfoldable pub firstIn : (Bytes → Bool) → ℕ → List Record → Found
+firstIn t q [] = Nowhere
+firstIn t q (e ∷ c) = cond (t (e .content)) (At (e .index) q) (firstIn t (e .index) c)
