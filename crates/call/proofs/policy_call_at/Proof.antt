@@ -1,0 +1,42 @@
+-- `policy_call_at` meets its contract: the fields, and then the operation.
+use Rattle.definition.specs.Reader.{_>>=_, into}
+use Rattle.fields.specs.ReaderLaws.{read}
+use Rattle.policy.specs.Answers.{policyOut, policyFits}
+use borrow.Author.Tests.{ne-eqb}
+use borrow.Author.Needs.{needs}
+use Rattle.call.proofs.policy_call_at.Statement.{statement}
+use Rattle.call.proofs.policy_call_at.Tie as tie
+
+returns : tie.Need-returns
+unfolding into _>>=_
+returns c =
+    let s = c .before .before .before .before .before .args .call .now in
+    let policy = read (policyOut s) (policyFits s) (c .before .before .before .policy-at .ensures) (c .before .k .given .1) in
+    (rw (policy .0), tt)
+
+returns-2 : tie.Need-returns-2
+unfolding into _>>=_
+returns-2 c =
+    let c1 = c .before in
+    let s = c1 .before .before .before .before .before .args .call .now in
+    let policy = read (policyOut s) (policyFits s) (c1 .before .before .before .policy-at .ensures) (c1 .before .q .given .1) in
+    (rw (policy .0, c .match2 .keys1), policy .1)
+
+returns-3 : tie.Need-returns-3
+unfolding into _>>=_
+returns-3 c =
+    let c1 = c .before in
+    let s = c1 .before .before .before .before .before .args .call .now in
+    let policy = read (policyOut s) (policyFits s) (c1 .before .before .before .policy-at .ensures) (c1 .before .q .given .1) in
+    (rw (policy .0, ne-eqb _ 5 (c .match2 .rest .1)), policy .1)
+
+pub policy-call-at-spec : {M : Type 1} → statement M
+policy-call-at-spec =
+    tie.close
+    (tie.spec
+    (λ c κs. search needs)
+    (λ c. search needs)
+    returns
+    (λ c. search needs)
+    returns-2
+    returns-3)
