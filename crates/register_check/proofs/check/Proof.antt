@@ -1,0 +1,16 @@
+-- A wrong header shows that the bytes are not sound; the rest is what the chains show.
+use Rattle.register_check.specs.JudgeLaws.{found, wrong-header}
+use borrow.Author.Needs.{needs}
+use Rattle.register_check.proofs.check.Statement.{statement}
+use Rattle.register_check.proofs.check.Tie as tie
+
+returns : tie.Need-returns
+returns c = wrong-header _ (found _ (c .enum-told .given .1) (c .before .before .header .ensures))
+
+chains-requires : tie.Need-chains-requires
+chains-requires c κs = found _ (c .before .found .given .1) (c .before .before .before .header .ensures)
+
+pub check-spec : {M : Type 1} → statement M
+check-spec =
+    tie.close
+    (tie.spec (λ c κs. search needs) (λ c. search needs) (λ c. search needs) returns chains-requires (λ c. search needs))

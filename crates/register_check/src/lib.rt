@@ -1,0 +1,249 @@
+// Whether bytes are a sound register, and where its chains end. One pass: each chain is walked once for as many records as the header says.
+ghost use mathlib.Core.Path.{_≡_};
+ghost use Prim.Native.Nat.{_+_, _*_, _≤_};
+ghost use lib.ListN.{length};
+ghost use Rattle.definition.specs.Limits.{recordWidth};
+ghost use Rattle.definition.specs.Book.{payloadWidth};
+ghost use Rattle.definition.specs.BookLegalLaws.{Limit};
+ghost use Rattle.definition.specs.BookJudgeLaws.{Decides, Counts, Apart};
+ghost use Rattle.register_check.specs.Meaning.{Chain, Gives, Headed, Heads, Walks, holds, number};
+use model::Record;
+
+// Index of each chain's last record, 0 for none.
+pub struct Lasts {
+    pub active: u32,
+    pub history: u32,
+    pub audit: u32,
+}
+
+pub enum Checked {
+    Sound(Lasts),
+    Unsound,
+}
+
+enum Kind {
+    Active,
+    History,
+    Audit,
+    Free,
+}
+
+// How many records a register's header has room for, if the header is as it should be.
+enum Head {
+    Capacity(u32),
+    Wrong,
+}
+
+// How a walk by links went: it ended after the record named (0 for none), or a link or a payload was wrong.
+enum Walked {
+    End(u32),
+    Broken,
+}
+
+// ---- one chain
+
+// Whether a payload is one of its chain.
+fn payload_ok(kind: Kind, p: &[u8]) -> bool
+    requires { ⌜ length (now p) ≡ payloadWidth ⌝ }
+    ensures { λ r. ⌜ r ≡ holds kind (now (p .entry)) ⌝ }
+{
+    match kind {
+        Kind::Active => record_check::alarm_ok(p, 3),
+        Kind::History => record_check::alarm_ok(p, 5),
+        Kind::Audit => record_check::event_ok(p),
+        Kind::Free => octets::is_blank(p),
+    }
+}
+
+// The way by links from `head` on: as many records as `count` says, each of 1 to `capacity` with a payload of its chain, and then 0.
+fn walk(register: &[u8], capacity: u32, kind: Kind, head: u32, count: u32) -> Walked
+    requires { ⌜ length (now register) ≡ recordWidth * (capacity + 1) ⌝ }
+    ensures { λ r. ⌜ Walks r kind (now (register .entry)) capacity count head ⌝ }
+{
+    let mut at = head;
+    let mut last = 0;
+    let mut k = 0;
+    while k < count {
+        if at == 0 {
+            return Walked::Broken;
+        }
+        if capacity < at {
+            return Walked::Broken;
+        }
+        let link = Record::WIDTH * (at as usize);
+        let a = link + 4;
+        let e = link + Record::WIDTH;
+        if !payload_ok(kind, &register[a..e]) {
+            return Walked::Broken;
+        }
+        last = at;
+        at = octets::get32(register, link);
+        k += 1;
+    }
+    if at != 0 {
+        return Walked::Broken;
+    }
+    Walked::End(last)
+}
+
+// Where the header has a chain's head; the chain's length follows it.
+fn head_at(kind: Kind) -> usize
+    ensures { λ r. ⌜ (r ≡ 12 + 8 * number kind) × (r ≤ 36) ⌝ }
+{
+    match kind {
+        Kind::Active => 12,
+        Kind::History => 20,
+        Kind::Audit => 28,
+        Kind::Free => 36,
+    }
+}
+
+fn chain(register: &[u8], capacity: u32, kind: Kind) -> Walked
+    requires { ⌜ length (now register) ≡ recordWidth * (capacity + 1) ⌝ }
+    ensures { λ r. ⌜ Chain r kind (now (register .entry)) capacity ⌝ }
+{
+    let at = head_at(kind);
+    let head = octets::get32(register, at);
+    let count = octets::get32(register, at + 4);
+    walk(register, capacity, kind, head, count)
+}
+
+// ---- the header
+
+fn limits_ok(a: u32, h: u32, e: u32) -> bool
+    ensures { λ r. ⌜ Decides r (Limit a × Limit h × Limit e) ⌝ }
+{
+    if a == 0 {
+        return false;
+    }
+    if 65535 < a {
+        return false;
+    }
+    if h == 0 {
+        return false;
+    }
+    if 65535 < h {
+        return false;
+    }
+    if e == 0 {
+        return false;
+    }
+    if 65535 < e {
+        return false;
+    }
+    true
+}
+
+// Whether the chains' lengths are within the limits, and make up their sum.
+fn counts_ok(register: &[u8], a: u32, h: u32, e: u32) -> bool
+    requires { ⌜ (recordWidth ≤ length (now register)) × (a ≤ 65535) × (h ≤ 65535) × (e ≤ 65535) ⌝ }
+    ensures { λ r. ⌜ Decides r (Counts (now (register .entry)) a h e) ⌝ }
+{
+    let active = octets::get32(register, 16);
+    if a < active {
+        return false;
+    }
+    let history = octets::get32(register, 24);
+    if h < history {
+        return false;
+    }
+    let audit = octets::get32(register, 32);
+    if e < audit {
+        return false;
+    }
+    let free = octets::get32(register, 40);
+    if free != (a - active) + (h - history) + (e - audit) {
+        return false;
+    }
+    true
+}
+
+// The header's numbers, the register's length, and zeros behind the numbers.
+fn header(register: &[u8]) -> Head
+    ensures { λ r. ⌜ Heads r (now (register .entry)) ⌝ }
+{
+    if register.len() < Record::WIDTH {
+        return Head::Wrong;
+    }
+    let a = octets::get32(register, 0);
+    let h = octets::get32(register, 4);
+    let e = octets::get32(register, 8);
+    if !limits_ok(a, h, e) {
+        return Head::Wrong;
+    }
+    if !counts_ok(register, a, h, e) {
+        return Head::Wrong;
+    }
+    let capacity = a + h + e;
+    if register.len() != Record::WIDTH * (capacity as usize + 1) {
+        return Head::Wrong;
+    }
+    if !octets::is_blank(&register[60..Record::WIDTH]) {
+        return Head::Wrong;
+    }
+    Head::Capacity(capacity)
+}
+
+// ---- the register
+
+// Whether p is 0, or not q.
+fn differ(p: u32, q: u32) -> bool
+    ensures { λ y. ⌜ Decides y (1 ≤ p → p ≡ q → ⊥) ⌝ }
+{
+    if p == 0 {
+        return true;
+    }
+    if p == q {
+        return false;
+    }
+    true
+}
+
+// Whether those of four last records that are there differ.
+fn apart(p: u32, q: u32, r: u32, t: u32) -> bool
+    ensures { λ y. ⌜ Decides y (Apart p q r t) ⌝ }
+{
+    differ(p, q) & differ(p, r) & differ(p, t) & differ(q, r) & differ(q, t) & differ(r, t)
+}
+
+// The four chains of a register whose header is as it should be.
+fn chains(register: &[u8], capacity: u32) -> Checked
+    requires { ⌜ Headed (now register) capacity ⌝ }
+    ensures { λ r. ⌜ Gives r (now (register .entry)) ⌝ }
+{
+    let active = chain(register, capacity, Kind::Active);
+    let Walked::End(a) = active else {
+        return Checked::Unsound;
+    };
+    let history = chain(register, capacity, Kind::History);
+    let Walked::End(h) = history else {
+        return Checked::Unsound;
+    };
+    let audit = chain(register, capacity, Kind::Audit);
+    let Walked::End(e) = audit else {
+        return Checked::Unsound;
+    };
+    let free = chain(register, capacity, Kind::Free);
+    let Walked::End(f) = free else {
+        return Checked::Unsound;
+    };
+    if !apart(a, h, e, f) {
+        return Checked::Unsound;
+    }
+    Checked::Sound(Lasts {
+        active: a,
+        history: h,
+        audit: e,
+    })
+}
+
+// Whether bytes are a sound register, and where its chains end.
+pub fn check(register: &[u8]) -> Checked
+    ensures { λ r. ⌜ Gives r (now (register .entry)) ⌝ }
+{
+    let found = header(register);
+    let Head::Capacity(capacity) = found else {
+        return Checked::Unsound;
+    };
+    chains(register, capacity)
+}

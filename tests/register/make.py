@@ -1,0 +1,398 @@
+#!/usr/bin/env python3
+"""Writes crates/register_damaged/stdin and stdout: registers with orders to damage and check them, and what the program is to print.
+
+The verdicts are those of a soundness check of its own, written from document 01 ("Sound means") and docs/layout.json. It sets
+aside each byte that has a meaning; all others must be zero. `make.py --check` writes nothing and says whether both files are up to date.
+"""
+import functools
+import itertools
+import json
+import pathlib
+import sys
+
+ROOT = pathlib.Path(__file__).resolve().parents[2]
+LAYOUT = json.loads((ROOT / "docs/layout.json").read_text(encoding="utf-8"))
+WIDTH = 1536
+LIMIT = {"cause": 96, "region": 128, "text": 256, "reason": 256, "details": 512}  # all others 64
+NAMES = """config-apply-failed config-drift-detected certificate-expiring certificate-expired identity-unavailable
+    authorization-policy-invalid session-store-unavailable lease-lost backend-timeout nrf-unreachable sbi-overload peer-unreachable
+    packet-drop-threshold dataplane-preflight-failed storage-corruption audit-chain-invalid key-unavailable li-delivery-failed
+    charging-export-failed privacy-policy-violation security-break-glass""".split()
+WHITE = "".join(map(chr, [*range(0x9, 0xE), 0x20, 0x85, 0xA0, 0x1680, *range(0x2000, 0x200B), 0x2028, 0x2029, 0x202F, 0x205F, 0x3000]))
+CHAINS = ["active", "history", "audit", "free"]
+
+
+# ---- the check
+
+class Unsound(Exception):
+    pass
+
+
+def need(fact):
+    if not fact:
+        raise Unsound
+
+
+def is_cause(text):
+    """A cause in its stored form."""
+    if text in NAMES:
+        return True
+    name = text.removeprefix("other:")
+    parts = name.split(".")
+    return text.startswith("other:") and len(parts) > 1 and all(parts) and not set(name) & set(WHITE)
+
+
+class Record:
+    """A record's bytes, and those of them that were not read: they have no meaning."""
+
+    def __init__(self, data):
+        self.data, self.rest = data, bytearray(data)
+
+    def part(self, at, width):
+        self.rest[at:at + width] = bytes(width)
+        return self.data[at:at + width]
+
+    def byte(self, at, values):
+        value = self.part(at, 1)[0]
+        need(value in values)
+        return value
+
+    def present(self, field):
+        return "present" not in field or self.byte(field["present"], (0, 1)) == 1
+
+    def string(self, name, field):
+        if not self.present(field):
+            return
+        length = int.from_bytes(self.part(*field["len"]), "big")
+        need(length <= LIMIT.get(name, 64))
+        data = self.part(field["at"], length)
+        if name == "details":
+            return
+        try:
+            text = data.decode("utf-8")
+        except UnicodeDecodeError:
+            raise Unsound from None
+        need(name != "cause" or is_cause(text))
+        need(name != "region" or text)
+
+    def rest_is_zero(self):
+        need(not any(self.rest))
+
+
+def alarm(record, states):
+    fields = LAYOUT["alarm"]
+    record.part(fields["key"], 16)
+    record.byte(fields["severity"], range(6))
+    record.byte(fields["state"], states)
+    record.part(fields["raised_at"], 8)
+    record.part(fields["updated_at"], 8)
+    if record.present(fields["cleared_at"]):
+        record.part(fields["cleared_at"]["at"], 8)
+    for name in ("id", "type", "cause", "tenant", "slice", "region", "text", "details"):
+        record.string(name, fields[name])
+    affected = fields["object"]
+    kind = record.byte(affected["kind"], range(1, 9))
+    for place in affected["use"][str(kind)]:
+        field = dict(affected["strings"][place])
+        if place == 1 and kind in affected["present_kinds"]:
+            field["present"] = affected["shard_present"]
+        record.string("object", field)
+    if kind == 8:
+        record.part(affected["queue"], 2)
+
+
+def event(record):
+    fields = LAYOUT["event"]
+    record.byte(fields["action"], (0, 1))
+    record.byte(fields["outcome"], (0, 1))
+    record.part(fields["occurred_at"], 8)
+    for name in ("id", "type", "cause", "principal", "tenant", "reason", "correlation"):
+        record.string(name, fields[name])
+    if record.byte(fields["scope"]["kind"], (0, 1, 2)) < 2:
+        record.string("scope", fields["scope"]["string"])
+
+
+@functools.lru_cache(maxsize=64)
+def is_of_chain(chain, payload):
+    record = Record(bytes(4) + payload)
+    try:
+        if chain == "audit":
+            event(record)
+        elif chain != "free":
+            alarm(record, range(4 if chain == "active" else 6))
+        record.rest_is_zero()
+    except Unsound:
+        return False
+    return True
+
+
+def number(data, name):
+    at, width = LAYOUT["header"][name]
+    return int.from_bytes(data[at:at + width], "big")
+
+
+def walked(data):
+    """The indices of each chain."""
+    need(len(data) >= WIDTH)
+    limits = [number(data, name) for name in "AHE"]
+    need(all(1 <= limit <= 65535 for limit in limits))
+    count = sum(limits)
+    need(len(data) == WIDTH * (1 + count))
+    end = max(at + width for at, width in LAYOUT["header"].values())
+    need(not any(data[end:WIDTH]))
+    chains = []
+    for chain, limit in itertools.zip_longest(CHAINS, limits, fillvalue=count):
+        indices, index = [], number(data, f"{chain}_head")
+        while index != 0:
+            need(index <= count and index not in indices)
+            indices.append(index)
+            index = int.from_bytes(data[WIDTH * index:WIDTH * index + 4], "big")
+        need(len(indices) == number(data, f"{chain}_length") and len(indices) <= limit)
+        chains.append(indices)
+    need(sorted(itertools.chain(*chains)) == list(range(1, count + 1)))
+    return chains
+
+
+def verdict(data):
+    """The last index of the active, history and audit chains, 0 for none; None if the register is not sound."""
+    try:
+        chains = walked(data)
+        for chain, indices in zip(CHAINS, chains):
+            for index in indices:
+                need(is_of_chain(chain, data[WIDTH * index + 4:WIDTH * (index + 1)]))
+    except Unsound:
+        return None
+    return [indices[-1] if indices else 0 for indices in chains[:3]]
+
+
+# ---- sound registers
+
+def put(data, at, value):
+    data[at:at + len(value)] = value
+
+
+def put_string(data, field, value):
+    """None for an option that is absent."""
+    if value is None:
+        return
+    if "present" in field:
+        data[field["present"]] = 1
+    put(data, field["len"][0], len(value).to_bytes(field["len"][1], "big"))
+    put(data, field["at"], value)
+
+
+def made_alarm(key, severity, state, kind, strings, queue=0, cleared=None, **texts):
+    data, fields = bytearray(WIDTH), LAYOUT["alarm"]
+    put(data, fields["key"], bytes([key]) * 16)
+    data[fields["severity"]], data[fields["state"]] = severity, state
+    put(data, fields["raised_at"], b"\x00\x01\x02\x03\x04\x05\x06\x07")
+    put(data, fields["updated_at"], b"\x80\x00\x00\x00\x00\x00\x00\x01")
+    if cleared is not None:
+        data[fields["cleared_at"]["present"]] = 1
+        put(data, fields["cleared_at"]["at"], cleared.to_bytes(8, "big"))
+    affected = fields["object"]
+    data[affected["kind"]] = kind
+    for place, value in zip(affected["use"][str(kind)], strings):
+        put_string(data, affected["strings"][place], value)
+        if place == 1 and kind in affected["present_kinds"] and value is not None:
+            data[affected["shard_present"]] = 1
+    put(data, affected["queue"], queue.to_bytes(2, "big"))
+    for name, value in texts.items():
+        put_string(data, fields[name], value)
+    return data
+
+
+def made_event(action, outcome, scope, string=None, **texts):
+    data, fields = bytearray(WIDTH), LAYOUT["event"]
+    data[fields["action"]], data[fields["outcome"]] = action, outcome
+    put(data, fields["occurred_at"], bytes(range(8)))
+    data[fields["scope"]["kind"]] = scope
+    put_string(data, fields["scope"]["string"], string)
+    for name, value in texts.items():
+        put_string(data, fields[name], value)
+    return data
+
+
+def register(limits, chains, records, successes=0, failures=0):
+    data = bytearray(WIDTH)
+    header = LAYOUT["header"]
+    for name, value in [*zip("AHE", limits), ("successes", successes), ("failures", failures)]:
+        put(data, header[name][0], value.to_bytes(header[name][1], "big"))
+    for index in range(1, sum(limits) + 1):
+        data += records.get(index, bytes(WIDTH))
+    for chain, indices in zip(CHAINS, chains):
+        put(data, header[f"{chain}_head"][0], (indices + [0])[0].to_bytes(4, "big"))
+        put(data, header[f"{chain}_length"][0], len(indices).to_bytes(4, "big"))
+        for index, after in zip(indices, indices[1:]):
+            put(data, WIDTH * index, after.to_bytes(4, "big"))
+    return data
+
+
+# All kinds of chain, options present and absent. Every alarm may stand on the active chain, so that nothing but links tells some damages.
+SMALL = register([2, 3, 1], [[5, 2], [1, 4], [3], [6]], {
+    5: made_alarm(0xA5, 5, 2, 8, [b"nf", b"n3"], queue=257, id=b"a", type=b"link", cause=b"lease-lost", tenant=b"t", slice=b"",
+                  region="Gr\u00fcn".encode(), text="caf\u00e9 \u20ac".encode(), details=b"\xff\x00{}"),
+    2: made_alarm(0x5A, 0, 3, 4, [b"store", b"shard"], id=b"b", type=b"", cause=b"other:a.b", text=b"x" * 256),
+    1: made_alarm(0x00, 3, 0, 6, [b"a"], cleared=7, id=b"", type=b"t", cause=b"sbi-overload", text=b"", details=b""),
+    4: made_alarm(0xFF, 1, 1, 1, [b"amf", b""], cleared=0, id=b"c", type=b"t" * 64, cause=b"other:\xc3\xa9.x", text=b"", region=b"r" * 128),
+    3: made_event(1, 0, 0, b"a", id=b"a", type=b"link", cause=b"lease-lost", principal=b"op", tenant=b"t", reason=b"why", correlation=b"c-1"),
+}, successes=2 ** 64 - 1, failures=3)
+
+# The other kinds of object and scope, absent shard, an empty chain and a free chain of two.
+OTHER = register([2, 4, 3], [[], [9, 1, 8, 2], [4, 7, 3], [6, 5]], {
+    9: made_alarm(1, 2, 4, 2, [b"a:b", b"c"], id=b"i", type=b"t", cause=b"key-unavailable", text=b"\xf0\x9f\x9a\xa0"),
+    1: made_alarm(2, 4, 5, 3, [b"", b"peer"], id=b"i", type=b"t", cause=b"other:x.y.z", text=b"", tenant=b"", slice=b"s"),
+    8: made_alarm(3, 5, 2, 4, [b"nf", None], id=b"i", type=b"t", cause=b"nrf-unreachable", text=b"", details=bytes(512)),
+    2: made_alarm(4, 5, 3, 7, [b"k"], id=b"i", type=b"t", cause=b"certificate-expired", text=b"", cleared=1),
+    4: made_event(0, 1, 1, b"tenant", id=b"i", type=b"t", cause=b"key-unavailable", principal=b"", reason=b"r" * 256),
+    7: made_event(1, 1, 2, id=b"", type=b"", cause=b"other:a.b", principal=b"p", tenant=b"", reason=b"", correlation=b""),
+    3: made_event(0, 0, 0, b"", id=b"i", type=b"t", cause=b"lease-lost", principal="\u65e5".encode(), reason=b"x"),
+})
+
+
+# ---- orders: each is three numbers of four bytes
+
+LOAD, WRITE, CHECK, FLIP = range(1, 5)
+
+
+class Orders:
+    """The program's input, and what it is to print."""
+
+    def __init__(self, registers):
+        self.head = bytes(0).join(registers)
+        self.starts = list(itertools.accumulate(map(len, registers), initial=0))
+        self.orders, self.work, self.printed = [], bytearray(), []
+
+    def order(self, kind, x, y):
+        self.orders.append((kind, x, y))
+
+    def load(self, place, size):
+        self.order(LOAD, self.starts[place], size)
+        self.work = bytearray(self.head[self.starts[place]:self.starts[place] + size]) + bytes(20480 - size)
+
+    def write(self, at, value):
+        self.order(WRITE, at, value)
+        put(self.work, at, value.to_bytes(4, "big"))
+
+    def check(self, size):
+        self.order(CHECK, size, 0)
+        lasts = verdict(bytes(self.work[:size]))
+        self.printed.append("unsound\n" if lasts is None else "sound {} {} {}\n".format(*lasts))
+        return lasts
+
+    def flip(self, size, mask):
+        """Every byte in turn: a line for 64 verdicts."""
+        self.order(FLIP, size, mask)
+        row = ""
+        for at in range(size):
+            self.work[at] ^= mask
+            row += "-" if verdict(bytes(self.work[:size])) is None else "s"
+            self.work[at] ^= mask
+            if at % 64 == 63:
+                self.printed.append(row + "\n")
+                row = ""
+
+    def damaged(self, place, size, *writes):
+        """A register with some numbers changed."""
+        self.load(place, size)
+        for at, value in writes:
+            self.write(at, value)
+        return self.check(size)
+
+    def stdin(self):
+        tail = b"".join(value.to_bytes(4, "big") for order in self.orders for value in order)
+        return len(self.head).to_bytes(4, "big") + self.head + tail
+
+    def stdout(self):
+        return "".join(self.printed).encode()
+
+
+def links(data):
+    """Where the numbers of a register lie that name a record: heads and next indices."""
+    heads = [LAYOUT["header"][f"{chain}_head"][0] for chain in CHAINS]
+    return heads + [WIDTH * index for index in range(1, len(data) // WIDTH)]
+
+
+def word(data, at):
+    return int.from_bytes(data[at:at + 4], "big")
+
+
+def structure(orders, place, data):
+    """Links, lengths, limits and slices."""
+    size, count, places = len(data), len(data) // WIDTH - 1, links(data)
+    lengths = [LAYOUT["header"][f"{chain}_length"][0] for chain in CHAINS]
+    limits = [LAYOUT["header"][name][0] for name in "AHE"]
+    # every link to every record, to the header and past the end: cycles, self-links, shared tails, records on no chain
+    for at in places:
+        for value in [*range(count + 2), 2 ** 16, 2 ** 31, 2 ** 32 - 1]:
+            orders.damaged(place, size, (at, value))
+    # two links exchanged: some give a chain's records to another
+    for a, b in itertools.combinations(places, 2):
+        orders.damaged(place, size, (a, word(data, b)), (b, word(data, a)))
+    # lengths off by one, alone and against one another; a chain given to another with its length
+    for at in lengths:
+        for value in (word(data, at) + 1, max(word(data, at) - 1, 0), 0, 2 ** 32 - 1):
+            orders.damaged(place, size, (at, value))
+    for a, b in itertools.permutations(range(4), 2):
+        orders.damaged(place, size, (lengths[a], word(data, lengths[a]) + 1), (lengths[b], max(word(data, lengths[b]) - 1, 0)))
+        orders.damaged(place, size, (places[a], word(data, places[b])), (lengths[a], word(data, lengths[b])))
+        orders.damaged(place, size, (places[a], word(data, places[b])), (lengths[a], word(data, lengths[b])),
+                       (places[b], word(data, places[a])), (lengths[b], word(data, lengths[a])))
+    # a chain that ends in the record of another, its length with it, so that all sums are right
+    for a, b in itertools.permutations(range(4), 2):
+        for index in range(1, count + 1):
+            orders.damaged(place, size, (places[a], index), (lengths[a], 1), (lengths[b], word(data, lengths[b]) + word(data, lengths[a]) - 1))
+    # limits with the same sum, and others
+    for a, b in itertools.permutations(limits, 2):
+        for step in (1, 2):
+            if word(data, a) > step:
+                orders.damaged(place, size, (a, word(data, a) - step), (b, word(data, b) + step))
+    for at in limits:
+        for value in (0, word(data, at) + 1, word(data, at) - 1, 65535, 65536, 2 ** 32 - 1, 2 ** 32 - count):
+            orders.damaged(place, size, (at, value))
+    # slices that are too short or too long, and whole
+    for length in [*range(0, 64, 4), 1535, 1536, 1537, size - WIDTH, size - 1, size + 1, size + 4, size + WIDTH, size]:
+        orders.load(place, size)
+        orders.check(length)
+
+
+def scratch(orders, place, data):
+    """One record more or less, with the length and a limit that go with it."""
+    size, count = len(data), len(data) // WIDTH - 1
+    header = LAYOUT["header"]
+    for limit in "AHE":
+        at = header[limit][0]
+        more = [(at, word(data, at) + 1), (header["free_head"][0], count + 1), (WIDTH * (count + 1), word(data, header["free_head"][0])),
+                (header["free_length"][0], word(data, header["free_length"][0]) + 1)]
+        for writes in (more, more[:3], more[:1] + more[3:], more[1:]):
+            orders.load(place, size)
+            for write in writes:
+                orders.write(*write)
+            orders.check(size + WIDTH)
+
+
+def main():
+    orders = Orders([SMALL, OTHER])
+    for place, data in enumerate([SMALL, OTHER]):
+        assert orders.damaged(place, len(data)) is not None, "the register is not sound"
+        structure(orders, place, data)
+        scratch(orders, place, data)
+    orders.load(0, len(SMALL))
+    for mask in (0x01, 0x80, 0xFF):
+        orders.flip(len(SMALL), mask)
+    orders.load(1, len(OTHER))
+    orders.flip(len(OTHER), 0x01)
+    assert len(orders.stdin()) <= 65536, "the program's buffer is too small"
+    files = {"stdin": orders.stdin(), "stdout": orders.stdout()}
+    folder = ROOT / "crates/register_damaged"
+    if sys.argv[1:] == ["--check"]:
+        stale = [name for name, data in files.items() if (folder / name).read_bytes() != data]
+        print(f"crates/register_damaged: {', '.join(stale)} out of date" if stale else "crates/register_damaged is up to date")
+        return 1 if stale else 0
+    for name, data in files.items():
+        (folder / name).write_bytes(data)
+    return 0
+
+
+if __name__ == "__main__":
+    sys.exit(main())
