@@ -24,7 +24,7 @@ DOCUMENTS = ["README.md", "NOTICE", "docs/*.md"]
 
 # The scripts that write what programs are to read and to print, and the files that they write.
 SCRIPTS = ["tests/vectors/*.py", "tests/calls/make.py"]
-WRITTEN = ["crates/*_vectors/stdout", "tests/calls/std*"]
+WRITTEN = ["crates/*_vectors/stdout", "crates/calls_replay/std*"]
 
 
 def texts(root, *patterns):
@@ -217,7 +217,7 @@ def vectors(root):
     with tempfile.TemporaryDirectory() as name:
         copy = pathlib.Path(name)
         for folder in {script.parent for script in scripts}:
-            shutil.copytree(root / folder, copy / folder, ignore=shutil.ignore_patterns("std*"))
+            shutil.copytree(root / folder, copy / folder)
         for file in stored:
             (copy / file.parent).mkdir(parents=True, exist_ok=True)
         for script in scripts:

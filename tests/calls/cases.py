@@ -63,7 +63,7 @@ def mixed(n):
 
 
 # every string at its limit
-LARGEST = {field: (option if field.endswith("?") else string)(mixed(LONGEST[field.rstrip("?")])) for field in PLAIN if field.rstrip("?") in LONGEST}
+LARGEST = {name: string(mixed(n)) for name, n in LONGEST.items()} | {name + "?": option(mixed(n)) for name, n in LONGEST.items()}
 LARGEST |= {"cause": string(b"other:" + b"a." * 44 + b"bb"), "object": thing(8, mixed(64), mixed(64)), "scope": scoped(0, mixed(64))}
 
 # not UTF-8; what is wrong is in the comments

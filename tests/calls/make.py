@@ -1,5 +1,5 @@
 #!/usr/bin/env python3
-"""Writes tests/calls/stdin, a list of calls, and stdout, what each of them says.
+"""Writes crates/calls_replay/stdin, a list of calls, and stdout, what each of them says.
 
 In stdin each call is a u32 length, big-endian, and its bytes. In stdout each has one line, as reading.py gives it. Both
 are the same on every run. First the reading is tried against Python's own UTF-8, white space and string functions,
@@ -11,7 +11,7 @@ from pathlib import Path
 from cases import calls, causes, joined, option, string, texts
 from reading import FIELDS, OBJECTS, VALUES, WHITE, WIDTHS, Call, Refused, characters, encoded, line, stored
 
-FOLDER = Path(__file__).resolve().parents[2] / "tests/calls"
+CRATE = Path(__file__).resolve().parents[2] / "crates/calls_replay"
 
 PLAIN_RAISE = "01 0000000000000000 00000001 61 00000001 74 03 {cause} 06 00000001 61 00 00 {region} {text} 00"
 
@@ -127,8 +127,8 @@ def main():
     faults = list(tried(listed))
     for fault in faults:
         print(f"tests/calls/make.py: {fault}", file=sys.stderr)
-    (FOLDER / "stdin").write_bytes(b"".join(len(data).to_bytes(4, "big") + data for data in listed))
-    (FOLDER / "stdout").write_text("".join(line(data) + "\n" for data in listed))
+    (CRATE / "stdin").write_bytes(b"".join(len(data).to_bytes(4, "big") + data for data in listed))
+    (CRATE / "stdout").write_text("".join(line(data) + "\n" for data in listed))
     return 1 if faults else 0
 
 

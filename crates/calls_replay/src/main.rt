@@ -1,0 +1,271 @@
+// Reads calls from the standard input, each behind its length in four bytes, and writes a line for each: what the parser says of it.
+// The files `stdin` and `stdout` of this crate are made by `python3 tests/calls/make.py`, which reads the calls by document 01 in a way
+// of its own; tests/calls/reading.py says how a line is written.
+use call::Clear;
+use call::Parsed;
+use call::Plain;
+use call::Raise;
+use libc::STDIN_FILENO;
+use libc::STDOUT_FILENO;
+use model::AffectedObject;
+use model::CauseSpan;
+use model::KeyFields;
+use model::OptSpan;
+use model::Places;
+use model::Span;
+use policy::Policy;
+use policy::Scope;
+
+// ---- the words of a line: a blank, and a number or a string
+
+fn say(text: &[u8]) {
+    io::write_all(STDOUT_FILENO, text);
+}
+
+fn show_number(n: u64) {
+    say(b" ");
+    io::print_decimal(STDOUT_FILENO, n);
+}
+
+fn show_named(name: &[u8], n: u64) {
+    say(name);
+    show_number(n);
+}
+
+fn wide(x: u8) -> u64 {
+    x as u64
+}
+
+fn show_hex(s: &[u8]) {
+    let mut i = 0;
+    while i < s.len() {
+        io::print_hex(STDOUT_FILENO, wide(s[i]), 2);
+        i += 1;
+    }
+}
+
+// The n bytes of s from a on, or what stands in no expected line.
+fn show_bytes(s: &[u8], a: usize, n: usize) {
+    if s.len() < a {
+        say(b"outside");
+        return;
+    }
+    if s.len() - a < n {
+        say(b"outside");
+        return;
+    }
+    let e = a + n;
+    show_hex(&s[a..e]);
+}
+
+fn show_string(call: &[u8], p: Span) {
+    say(b" x");
+    show_bytes(call, p.at, p.len);
+}
+
+fn show_option(call: &[u8], o: OptSpan) {
+    match o {
+        OptSpan::Absent => say(b" -"),
+        OptSpan::Present(p) => show_string(call, p),
+    }
+}
+
+// The cause name at k.
+fn show_name(k: usize) {
+    if k >= 21 {
+        say(b"outside");
+        return;
+    }
+    let mut buf = [0u8; 28];
+    let n = cause::put_name(&mut buf, 0, k);
+    show_bytes(&buf, 0, n);
+}
+
+// A cause in its stored form.
+fn show_cause(call: &[u8], c: CauseSpan) {
+    say(b" x");
+    match c {
+        CauseSpan::Name(k) => show_name(k),
+        CauseSpan::Other(p) => {
+            show_hex(b"other:");
+            show_bytes(call, p.at, p.len);
+        }
+    }
+}
+
+fn show_pair(call: &[u8], kind: u64, a: Span, b: Span) {
+    show_number(kind);
+    show_string(call, a);
+    show_string(call, b);
+}
+
+fn show_single(call: &[u8], kind: u64, a: Span) {
+    show_number(kind);
+    show_string(call, a);
+}
+
+// An object: its kind, its strings, its queue.
+fn show_object(call: &[u8], o: AffectedObject) {
+    match o {
+        AffectedObject::NfInstance { kind, instance } => show_pair(call, 1, kind, instance),
+        AffectedObject::Interface { nf, name } => show_pair(call, 2, nf, name),
+        AffectedObject::Peer { nf, peer_id } => show_pair(call, 3, nf, peer_id),
+        AffectedObject::SessionStore { nf, shard } => {
+            show_single(call, 4, nf);
+            show_option(call, shard);
+        }
+        AffectedObject::Slice { snssai } => show_single(call, 5, snssai),
+        AffectedObject::Tenant { tenant } => show_single(call, 6, tenant),
+        AffectedObject::Certificate { key_id } => show_single(call, 7, key_id),
+        AffectedObject::DataPlaneQueue {
+            nf,
+            interface,
+            queue,
+        } => {
+            show_pair(call, 8, nf, interface);
+            show_number(queue as u64);
+        }
+    }
+}
+
+fn show_places(call: &[u8], p: Places) {
+    let tenant = p.tenant;
+    let slice = p.slice;
+    let region = p.region;
+    show_option(call, tenant);
+    show_option(call, slice);
+    show_option(call, region);
+}
+
+fn show_key(call: &[u8], k: KeyFields) {
+    let c = k.cause;
+    let o = k.object;
+    let p = k.places;
+    show_cause(call, c);
+    show_object(call, o);
+    show_places(call, p);
+}
+
+// ---- the fields of an operation
+
+fn show_raise(call: &[u8], r: Raise) {
+    let h = r.head;
+    let k = r.key;
+    let d = r.details;
+    show_number(h.time);
+    show_string(call, h.id);
+    show_string(call, h.alarm_type);
+    show_number(h.severity as u64);
+    show_key(call, k);
+    show_string(call, r.text);
+    show_option(call, d);
+}
+
+fn show_clear(call: &[u8], c: Clear) {
+    let k = c.key;
+    show_number(c.time);
+    show_string(call, c.alarm_type);
+    show_key(call, k);
+}
+
+fn show_plain(call: &[u8], p: Plain) {
+    show_number(p.time);
+    show_string(call, p.id);
+    show_number(p.authorised as u64);
+}
+
+fn show_scope(call: &[u8], s: Scope) {
+    match s {
+        Scope::Alarm(p) => show_single(call, 0, p),
+        Scope::Tenant(p) => show_single(call, 1, p),
+        Scope::Global => show_number(2),
+    }
+}
+
+fn show_policy(call: &[u8], p: Policy) {
+    let a = p.actor;
+    let r = p.request;
+    let v = p.verdict;
+    let tenant = a.tenant;
+    let scope = r.scope;
+    let correlation = r.correlation;
+    show_number(a.time);
+    show_string(call, a.id);
+    show_string(call, a.principal);
+    show_option(call, tenant);
+    show_string(call, r.reason);
+    show_scope(call, scope);
+    show_option(call, correlation);
+    show_number(v.critical_allowed as u64);
+    show_number(v.authorised as u64);
+    show_string(call, v.denial);
+}
+
+// ---- calls
+
+fn show(call: &[u8]) {
+    match call::parse(call) {
+        Parsed::Raise(r) => {
+            say(b"raise");
+            show_raise(call, r);
+        }
+        Parsed::Clear(c) => {
+            say(b"clear");
+            show_clear(call, c);
+        }
+        Parsed::Acknowledge(p) => {
+            say(b"acknowledge");
+            show_plain(call, p);
+        }
+        Parsed::Suppress(p) => {
+            say(b"suppress");
+            show_plain(call, p);
+        }
+        Parsed::AcknowledgePolicy(p) => {
+            say(b"acknowledge-policy");
+            show_policy(call, p);
+        }
+        Parsed::SuppressPolicy(p) => {
+            say(b"suppress-policy");
+            show_policy(call, p);
+        }
+        Parsed::Expire(t) => show_named(b"expire", t),
+        Parsed::Active(v) => show_named(b"active", v as u64),
+        Parsed::History { tenant, slice } => {
+            say(b"history");
+            show_option(call, tenant);
+            show_option(call, slice);
+        }
+        Parsed::Counts => say(b"counts"),
+        Parsed::Summary => say(b"summary"),
+        Parsed::TakeAudit(n) => show_named(b"take-audit", n as u64),
+        Parsed::Refused(k) => show_named(b"refused", k as u64),
+    }
+}
+
+// The next call's bytes come to the front of buf, and its line goes out. Says whether there was a call that fits.
+fn next(buf: &mut [u8]) -> bool {
+    let mut head = [0u8; 4];
+    if io::read_full(STDIN_FILENO, &mut head) < 4 {
+        return false;
+    }
+    let n = octets::number(&head) as usize;
+    if buf.len() < n {
+        return false;
+    }
+    if io::read_full(STDIN_FILENO, &mut buf[..n]) < n {
+        return false;
+    }
+    show(&buf[..n]);
+    say(b"\n");
+    true
+}
+
+// A proved loop ends, and nothing says that the input does: the turns are counted down from a number that no run uses up.
+fn main() {
+    let mut buf = io::buffer();
+    let mut turns = u64::MAX;
+    while turns > 0 && next(&mut buf) {
+        turns -= 1;
+    }
+}
