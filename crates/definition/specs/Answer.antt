@@ -45,7 +45,7 @@ pub record Head : Type 0 where
   pub count : ℕ
   pub number : ℕ
 
-abbrev head : ℕ → ℕ → ℕ → Head
+abbrev pub head : ℕ → ℕ → ℕ → Head
 head c n v = record { code = c; count = n; number = v }
 
 -- "Number is 0 and count 0 unless given; alarms count 1"

@@ -11,6 +11,7 @@ pub mod Reader
 pub mod Parse
 pub mod Key
 pub mod KeyLaws
+pub mod StringLaws
 pub mod Book
 pub mod Opening
 pub mod BookChainLaws

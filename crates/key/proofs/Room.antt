@@ -19,7 +19,7 @@ use Rattle.model.specs.declared.Span.{Span}
 use Rattle.model.specs.declared.OptSpan.{OptSpan}
 use Rattle.model.specs.declared.OptSpan.the-variants.{Absent, Present}
 use Rattle.model.specs.Meaning.{part, optPart, causePart, objectValue, within, optWithin, causeWithin, objectWithin}
-use Rattle.key.proofs.PutLaws.{single-fed, shard-fed, pair-fed, queue-fed}
+use Rattle.key.proofs.Fed.{single-fed, shard-fed, pair-fed, queue-fed}
 
 pub short-name : (k : ℕ) → k < 21 → length (getD names k []) ≤ causeLimit
 short-name k h = leb→le _ _ (on-range (λ (m : ℕ). leb (length (getD names m [])) causeLimit) 21 0 tt k (omega arith) (omega arith))

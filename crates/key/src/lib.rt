@@ -10,11 +10,12 @@ ghost use mathlib.Core.List.{_++_};
 ghost use Prim.Native.Nat.{_+_, _-_, _*_, _≤_, _<_};
 ghost use lib.ListN.{length};
 ghost use Rattle.octets.specs.Bytes.{splice};
+ghost use Rattle.octets.specs.Put.{Put};
 ghost use Rattle.definition.specs.Limits.{shortLimit, causeLimit, regionLimit};
 ghost use Rattle.definition.specs.Cause.{other};
 ghost use Rattle.definition.specs.Key.{string, optional, decimal, fedObject, fedPlaces, fed, keyOf, hexDigit, hex};
 ghost use Rattle.model.specs.Meaning.{part, optPart, causePart, objectValue, placesValue, keyValue, within, optWithin, causeWithin, objectWithin, PlacesWithin, KeyWithin};
-ghost use Rattle.key.specs.Put.{room, Put};
+ghost use Rattle.key.specs.Room.{room};
 
 // ---- strings and options, encoded as in a call, put into the buffer of what is hashed
 

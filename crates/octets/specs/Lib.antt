@@ -9,3 +9,5 @@ pub mod SpliceLaws
 pub mod Pack
 pub mod PackLaws
 pub mod BlankLaws
+pub mod Put
+pub mod PutLaws

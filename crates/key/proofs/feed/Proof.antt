@@ -1,7 +1,7 @@
 -- `feed` meets its contract: the fields stand one behind the other, each within its room.
 use native.Mathlib.Omega.{arith}
 use Rattle.definition.specs.Key.{fed}
-use Rattle.key.proofs.PutLaws.{put-two}
+use Rattle.octets.specs.PutLaws.{put-two}
 use Rattle.key.proofs.Room.{string-room, cause-room, object-room}
 use borrow.Author.Needs.{needs}
 use Rattle.key.proofs.feed.Statement.{statement}

@@ -6,7 +6,7 @@ use lib.Seq.{length-take-le}
 use Rattle.octets.specs.SpliceLaws.{splice-whole}
 use Rattle.fips180.specs.Sha256.{sha256Of}
 use Rattle.definition.specs.Key.{keyOf}
-use Rattle.key.proofs.PutLaws.{put-front}
+use Rattle.octets.specs.PutLaws.{put-front}
 use borrow.Author.Needs.{needs}
 use Rattle.key.proofs.key_of.Statement.{statement}
 use Rattle.key.proofs.key_of.Tie as tie

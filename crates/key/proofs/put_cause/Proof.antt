@@ -5,7 +5,7 @@ use lib.Seq.{length-take-le}
 use Rattle.definition.specs.Key.{string}
 use Rattle.definition.specs.KeyLaws.{length-string}
 use Rattle.model.specs.Meaning.{causePart}
-use Rattle.key.proofs.PutLaws.{put-as, put-front}
+use Rattle.octets.specs.PutLaws.{put-as, put-front}
 use Rattle.key.proofs.Room.{cause-room}
 use borrow.Author.Needs.{needs}
 use Rattle.key.proofs.put_cause.Statement.{statement}

@@ -4,7 +4,8 @@ use native.Mathlib.Omega.{arith}
 use Rattle.octets.specs.Bytes.{ascii}
 use Rattle.definition.specs.Key.{string, optional, decimal, parts, fedObject}
 use Rattle.model.specs.Meaning.{part, optPart}
-use Rattle.key.proofs.PutLaws.{put-two, put-as, single-fed, shard-fed, pair-fed, queue-fed}
+use Rattle.octets.specs.PutLaws.{put-two, put-as}
+use Rattle.key.proofs.Fed.{single-fed, shard-fed, pair-fed, queue-fed}
 use Rattle.key.proofs.Room.{single-room, pair-room, option-wider, object-case, fed-case}
 use borrow.Author.Needs.{needs}
 use Rattle.key.proofs.put_object.Statement.{statement}

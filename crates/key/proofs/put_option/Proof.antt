@@ -1,6 +1,6 @@
 -- `put_option` meets its contract: a byte, and the string behind it where there is one.
 use mathlib.Core.Path.{refl}
-use Rattle.key.proofs.PutLaws.{put-two, put-as}
+use Rattle.octets.specs.PutLaws.{put-two, put-as}
 use Rattle.key.proofs.Room.{option-case, option-fed}
 use borrow.Author.Needs.{needs}
 use Rattle.key.proofs.put_option.Statement.{statement}

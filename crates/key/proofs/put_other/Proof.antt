@@ -2,7 +2,8 @@
 use Rattle.octets.specs.SpliceLaws.{lent-length}
 use mathlib.Core.Path.{refl}
 use native.Mathlib.Omega.{arith}
-use Rattle.key.proofs.PutLaws.{put-two, put-as, span-part}
+use Rattle.octets.specs.PutLaws.{put-two, put-as}
+use Rattle.key.proofs.Fed.{span-part}
 use borrow.Author.Needs.{needs}
 use Rattle.key.proofs.put_other.Statement.{statement}
 use Rattle.key.proofs.put_other.Tie as tie

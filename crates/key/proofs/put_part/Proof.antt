@@ -1,7 +1,9 @@
 -- `put_part` meets its contract: the part lent is the one that the span names.
 use mathlib.Core.Path.{ap}
 use Rattle.definition.specs.Key.{string}
-use Rattle.key.proofs.PutLaws.{put-as, put-string, span-part}
+use Rattle.octets.specs.PutLaws.{put-as}
+use Rattle.definition.specs.StringLaws.{put-string}
+use Rattle.key.proofs.Fed.{span-part}
 use borrow.Author.Needs.{needs}
 use Rattle.key.proofs.put_part.Statement.{statement}
 use Rattle.key.proofs.put_part.Tie as tie

@@ -1,7 +1,7 @@
 -- `put_places` meets its contract: three options, one behind the other.
 use native.Mathlib.Omega.{arith}
 use Rattle.definition.specs.Key.{fedPlaces}
-use Rattle.key.proofs.PutLaws.{put-two}
+use Rattle.octets.specs.PutLaws.{put-two}
 use Rattle.key.proofs.Room.{option-room, option-wider}
 use borrow.Author.Needs.{needs}
 use Rattle.key.proofs.put_places.Statement.{statement}

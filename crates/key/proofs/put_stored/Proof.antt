@@ -1,6 +1,6 @@
 -- `put_stored` meets its contract: a name by its place, or `other:` and a part of the call.
 use native.Mathlib.Omega.{arith}
-use Rattle.key.proofs.PutLaws.{put-as}
+use Rattle.octets.specs.PutLaws.{put-as}
 use Rattle.key.proofs.Room.{short-name, cause-case, cause-fed}
 use borrow.Author.Needs.{needs}
 use Rattle.key.proofs.put_stored.Statement.{statement}
