@@ -1,0 +1,19 @@
+-- `put_alarm` meets its contract: the record stands behind the head.
+use native.Mathlib.Omega.{arith}
+use Rattle.octets.specs.PutLaws.{put-two}
+use Rattle.definition.specs.Answer.{head}
+use Rattle.answers.specs.AnswerLaws.{length-head}
+use borrow.Author.Needs.{needs}
+use Rattle.answers.proofs.put_alarm.Statement.{statement}
+use Rattle.answers.proofs.put_alarm.Tie as tie
+
+put-record-requires : tie.Need-put-record-requires
+put-record-requires c κs =
+    let s = c .before .before .before .before .before .before .before .args in
+    (omega (arith, c .before .before .before .put-head .ensures .next, length-head (head (s .code) 1 0)), search needs)
+
+returns : tie.Need-returns
+returns c = put-two (c .before .before .before .before .before .before .put-head .ensures) (c .before .before .put-record .ensures)
+
+pub put-alarm-spec : {M : Type 1} → statement M
+put-alarm-spec = tie.close (tie.spec (λ c κs. search needs) put-record-requires (λ c. search needs) returns)
