@@ -1,10 +1,13 @@
 """What a call says, read from document 01's sections "The call enters" and "Cause names", and from nothing else here.
 
-`line(call)` is the line for a call's bytes: `refused N`, or the operation's name and all fields in order. A number is
+`Call(call).read()` gives the operation and the values of its fields: a number (a time as the unsigned number of its eight
+bytes), the bytes of a string, None for an absent one; an object is its kind and its parts, a scope its number and its
+string. `line(call)` is the line for a call's bytes: `refused N`, or the operation's name and all fields in order. A number is
 decimal, a time too, as the unsigned number of its eight bytes. A string is `x` and its bytes in lower-case hexadecimal
 digits; an absent one is `-`. A cause is in its stored form. An object is its kind and its strings, kind 8's queue last; a
 scope is its number and its string.
 """
+import functools
 
 # ---- the table of operations; "?" marks an optional string
 
@@ -59,6 +62,7 @@ ROWS = [
 ]
 
 
+@functools.lru_cache(maxsize=4096)
 def characters(s):
     """The characters of s, each as its bytes; None where s is not UTF-8."""
     found, at = [], 0
@@ -97,6 +101,7 @@ peer-unreachable packet-drop-threshold dataplane-preflight-failed storage-corrup
 key-unavailable li-delivery-failed charging-export-failed privacy-policy-violation security-break-glass""".split()
 
 
+@functools.lru_cache(maxsize=4096)
 def stored(s):
     """The stored form of a cause; None where s, which is UTF-8, is no cause."""
     if s in NAMES:
@@ -136,7 +141,7 @@ class Call:
         return self.data[self.at - n:self.at]
 
     def number(self, n):
-        return sum(b * 256 ** (n - 1 - i) for i, b in enumerate(self.take(n)))
+        return int.from_bytes(self.take(n), "big")
 
     def choice(self, values):
         b = self.number(1)
@@ -159,56 +164,59 @@ class Call:
 
     def optional(self, name):
         if self.choice("option") == 0:
-            return "-"
+            return None
         s = self.string(name)
         if name == "region" and s == b"" and self.raised:
             self.refuse(29)
-        return "x" + s.hex()
+        return s
 
-    def words(self, field):
-        """A field's words. The parts of an object are fields of their own, named by kind and place."""
+    def single(self, part):
+        if part in WIDTHS:
+            return self.number(WIDTHS[part])
+        if part in VALUES:
+            return self.choice(part)
+        return self.optional(part[:-1]) if part.endswith("?") else self.string(part)
+
+    def value(self, field):
+        """A field's value. The parts of an object are fields of their own, named by kind and place."""
         self.field = field
         if field == "object":
-            kind = self.choice("kind")
-            yield str(kind)
+            kind, parts = self.choice("kind"), []
             for place, part in enumerate(OBJECTS[kind], 1):
                 self.field = f"object {kind}.{place}"
-                yield self.word(part)
-        elif field == "scope":
+                parts.append(self.single(part))
+            return kind, *parts
+        if field == "scope":
             scope = self.choice("scope")
-            yield str(scope)
             self.field = f"scope {scope}"
-            if scope < 2:
-                yield "x" + self.string("scope").hex()
-        else:
-            yield self.word(field)
-
-    def word(self, part):
-        if part in WIDTHS:
-            return str(self.number(WIDTHS[part]))
-        if part in VALUES:
-            return str(self.choice(part))
-        if part.endswith("?"):
-            return self.optional(part[:-1])
-        return "x" + self.string(part).hex()
+            return (scope, self.string("scope")) if scope < 2 else (scope,)
+        return self.single(field)
 
     def read(self):
-        """The operation's name and the words of its fields."""
+        """The operation, and its fields' values by name."""
         if not self.data or self.data[0] not in OPERATIONS:
             self.refuse(23)
         op = self.number(1)
         self.raised = op == 1
-        said = [OPERATIONS[op][0]]
-        for field in FIELDS[op]:
-            said += self.words(field)
+        values = {field.removesuffix("?"): self.value(field) for field in FIELDS[op]}
         self.field = "end"
         if self.at < len(self.data):
             self.refuse(24)
-        return said
+        return op, values
+
+
+def words(value):
+    """A value as words of a line."""
+    if isinstance(value, tuple):
+        return " ".join(map(words, value))
+    if value is None:
+        return "-"
+    return "x" + value.hex() if isinstance(value, bytes) else str(value)
 
 
 def line(data):
     try:
-        return " ".join(Call(data).read())
+        op, values = Call(data).read()
     except Refused as refusal:
         return f"refused {refusal.args[0]}"
+    return " ".join([OPERATIONS[op][0], *map(words, values.values())])

@@ -1,230 +1,52 @@
 #!/usr/bin/env python3
 """Writes crates/register_damaged/stdin and stdout: registers with orders to damage and check them, and what the program is to print.
 
-The verdicts are those of a soundness check of its own, written from document 01 ("Sound means") and docs/layout.json. It sets
-aside each byte that has a meaning; all others must be zero. `make.py --check` writes nothing and says whether both files are up to date.
+The verdicts are those of compare/soundness.py, written from document 01. `make.py --check` writes nothing and says whether both
+files are up to date.
 """
-import functools
 import itertools
-import json
 import pathlib
 import sys
 
 ROOT = pathlib.Path(__file__).resolve().parents[2]
-LAYOUT = json.loads((ROOT / "docs/layout.json").read_text(encoding="utf-8"))
-WIDTH = 1536
-LIMIT = {"cause": 96, "region": 128, "text": 256, "reason": 256, "details": 512}  # all others 64
-NAMES = """config-apply-failed config-drift-detected certificate-expiring certificate-expired identity-unavailable
-    authorization-policy-invalid session-store-unavailable lease-lost backend-timeout nrf-unreachable sbi-overload peer-unreachable
-    packet-drop-threshold dataplane-preflight-failed storage-corruption audit-chain-invalid key-unavailable li-delivery-failed
-    charging-export-failed privacy-policy-violation security-break-glass""".split()
-WHITE = "".join(map(chr, [*range(0x9, 0xE), 0x20, 0x85, 0xA0, 0x1680, *range(0x2000, 0x200B), 0x2028, 0x2029, 0x202F, 0x205F, 0x3000]))
-CHAINS = ["active", "history", "audit", "free"]
-
-
-# ---- the check
-
-class Unsound(Exception):
-    pass
-
-
-def need(fact):
-    if not fact:
-        raise Unsound
-
-
-def is_cause(text):
-    """A cause in its stored form."""
-    if text in NAMES:
-        return True
-    name = text.removeprefix("other:")
-    parts = name.split(".")
-    return text.startswith("other:") and len(parts) > 1 and all(parts) and not set(name) & set(WHITE)
-
-
-class Record:
-    """A record's bytes, and those of them that were not read: they have no meaning."""
-
-    def __init__(self, data):
-        self.data, self.rest = data, bytearray(data)
-
-    def part(self, at, width):
-        self.rest[at:at + width] = bytes(width)
-        return self.data[at:at + width]
-
-    def byte(self, at, values):
-        value = self.part(at, 1)[0]
-        need(value in values)
-        return value
-
-    def present(self, field):
-        return "present" not in field or self.byte(field["present"], (0, 1)) == 1
-
-    def string(self, name, field):
-        if not self.present(field):
-            return
-        length = int.from_bytes(self.part(*field["len"]), "big")
-        need(length <= LIMIT.get(name, 64))
-        data = self.part(field["at"], length)
-        if name == "details":
-            return
-        try:
-            text = data.decode("utf-8")
-        except UnicodeDecodeError:
-            raise Unsound from None
-        need(name != "cause" or is_cause(text))
-        need(name != "region" or text)
-
-    def rest_is_zero(self):
-        need(not any(self.rest))
-
-
-def alarm(record, states):
-    fields = LAYOUT["alarm"]
-    record.part(fields["key"], 16)
-    record.byte(fields["severity"], range(6))
-    record.byte(fields["state"], states)
-    record.part(fields["raised_at"], 8)
-    record.part(fields["updated_at"], 8)
-    if record.present(fields["cleared_at"]):
-        record.part(fields["cleared_at"]["at"], 8)
-    for name in ("id", "type", "cause", "tenant", "slice", "region", "text", "details"):
-        record.string(name, fields[name])
-    affected = fields["object"]
-    kind = record.byte(affected["kind"], range(1, 9))
-    for place in affected["use"][str(kind)]:
-        field = dict(affected["strings"][place])
-        if place == 1 and kind in affected["present_kinds"]:
-            field["present"] = affected["shard_present"]
-        record.string("object", field)
-    if kind == 8:
-        record.part(affected["queue"], 2)
-
-
-def event(record):
-    fields = LAYOUT["event"]
-    record.byte(fields["action"], (0, 1))
-    record.byte(fields["outcome"], (0, 1))
-    record.part(fields["occurred_at"], 8)
-    for name in ("id", "type", "cause", "principal", "tenant", "reason", "correlation"):
-        record.string(name, fields[name])
-    if record.byte(fields["scope"]["kind"], (0, 1, 2)) < 2:
-        record.string("scope", fields["scope"]["string"])
-
-
-@functools.lru_cache(maxsize=64)
-def is_of_chain(chain, payload):
-    record = Record(bytes(4) + payload)
-    try:
-        if chain == "audit":
-            event(record)
-        elif chain != "free":
-            alarm(record, range(4 if chain == "active" else 6))
-        record.rest_is_zero()
-    except Unsound:
-        return False
-    return True
-
-
-def number(data, name):
-    at, width = LAYOUT["header"][name]
-    return int.from_bytes(data[at:at + width], "big")
-
-
-def walked(data):
-    """The indices of each chain."""
-    need(len(data) >= WIDTH)
-    limits = [number(data, name) for name in "AHE"]
-    need(all(1 <= limit <= 65535 for limit in limits))
-    count = sum(limits)
-    need(len(data) == WIDTH * (1 + count))
-    end = max(at + width for at, width in LAYOUT["header"].values())
-    need(not any(data[end:WIDTH]))
-    chains = []
-    for chain, limit in itertools.zip_longest(CHAINS, limits, fillvalue=count):
-        indices, index = [], number(data, f"{chain}_head")
-        while index != 0:
-            need(index <= count and index not in indices)
-            indices.append(index)
-            index = int.from_bytes(data[WIDTH * index:WIDTH * index + 4], "big")
-        need(len(indices) == number(data, f"{chain}_length") and len(indices) <= limit)
-        chains.append(indices)
-    need(sorted(itertools.chain(*chains)) == list(range(1, count + 1)))
-    return chains
+sys.path.insert(1, str(ROOT / "compare"))
+from records import CHAINS, LAYOUT, WIDTH, alarm_record, event_record, put, put_link, put_number
+from soundness import sound_chains
 
 
 def verdict(data):
     """The last index of the active, history and audit chains, 0 for none; None if the register is not sound."""
-    try:
-        chains = walked(data)
-        for chain, indices in zip(CHAINS, chains):
-            for index in indices:
-                need(is_of_chain(chain, data[WIDTH * index + 4:WIDTH * (index + 1)]))
-    except Unsound:
-        return None
-    return [indices[-1] if indices else 0 for indices in chains[:3]]
+    chains = sound_chains(data)
+    return None if chains is None else [indices[-1] if indices else 0 for indices in chains[:3]]
 
 
 # ---- sound registers
 
-def put(data, at, value):
-    data[at:at + len(value)] = value
-
-
-def put_string(data, field, value):
-    """None for an option that is absent."""
-    if value is None:
-        return
-    if "present" in field:
-        data[field["present"]] = 1
-    put(data, field["len"][0], len(value).to_bytes(field["len"][1], "big"))
-    put(data, field["at"], value)
+ABSENT = dict.fromkeys(("tenant", "slice", "region", "details", "correlation"))
 
 
 def made_alarm(key, severity, state, kind, strings, queue=0, cleared=None, **texts):
-    data, fields = bytearray(WIDTH), LAYOUT["alarm"]
-    put(data, fields["key"], bytes([key]) * 16)
-    data[fields["severity"]], data[fields["state"]] = severity, state
-    put(data, fields["raised_at"], b"\x00\x01\x02\x03\x04\x05\x06\x07")
-    put(data, fields["updated_at"], b"\x80\x00\x00\x00\x00\x00\x00\x01")
-    if cleared is not None:
-        data[fields["cleared_at"]["present"]] = 1
-        put(data, fields["cleared_at"]["at"], cleared.to_bytes(8, "big"))
-    affected = fields["object"]
-    data[affected["kind"]] = kind
-    for place, value in zip(affected["use"][str(kind)], strings):
-        put_string(data, affected["strings"][place], value)
-        if place == 1 and kind in affected["present_kinds"] and value is not None:
-            data[affected["shard_present"]] = 1
-    put(data, affected["queue"], queue.to_bytes(2, "big"))
-    for name, value in texts.items():
-        put_string(data, fields[name], value)
-    return data
+    return alarm_record(ABSENT | texts | {
+        "key": bytes([key]) * 16, "severity": severity, "state": state, "object": (kind, *strings, queue), "cleared_at": cleared,
+        "raised_at": 0x0001020304050607, "updated_at": 1 - 2 ** 63})
 
 
 def made_event(action, outcome, scope, string=None, **texts):
-    data, fields = bytearray(WIDTH), LAYOUT["event"]
-    data[fields["action"]], data[fields["outcome"]] = action, outcome
-    put(data, fields["occurred_at"], bytes(range(8)))
-    data[fields["scope"]["kind"]] = scope
-    put_string(data, fields["scope"]["string"], string)
-    for name, value in texts.items():
-        put_string(data, fields[name], value)
-    return data
+    return event_record(ABSENT | texts | {
+        "action": action, "outcome": outcome, "scope": (scope, string), "occurred_at": 0x0001020304050607})
 
 
 def register(limits, chains, records, successes=0, failures=0):
     data = bytearray(WIDTH)
-    header = LAYOUT["header"]
     for name, value in [*zip("AHE", limits), ("successes", successes), ("failures", failures)]:
-        put(data, header[name][0], value.to_bytes(header[name][1], "big"))
+        put_number(data, name, value)
     for index in range(1, sum(limits) + 1):
         data += records.get(index, bytes(WIDTH))
     for chain, indices in zip(CHAINS, chains):
-        put(data, header[f"{chain}_head"][0], (indices + [0])[0].to_bytes(4, "big"))
-        put(data, header[f"{chain}_length"][0], len(indices).to_bytes(4, "big"))
+        put_number(data, f"{chain}_head", (indices + [0])[0])
+        put_number(data, f"{chain}_length", len(indices))
         for index, after in zip(indices, indices[1:]):
-            put(data, WIDTH * index, after.to_bytes(4, "big"))
+            put_link(data, index, after)
     return data
 
 

@@ -1,0 +1,6 @@
+"""Lets the programs of this folder find those of tests/: the reading of calls, and the list of checks."""
+import pathlib
+import sys
+
+TESTS = pathlib.Path(__file__).resolve().parent.parent / "tests"
+sys.path[1:1] = [str(TESTS), str(TESTS / "calls")]
