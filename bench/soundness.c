@@ -1,0 +1,214 @@
+/* What the check of a register's soundness costs. Every call starts with it; an empty call is refused (23) right after it, so the time of
+   alarm_step with an empty call is the check's own.
+
+   Prints, for registers all free and registers full of typical alarms, nanoseconds per record (the least and the median of many runs) and
+   bytes per second (of the least), and beside them those of a memcpy of the same bytes.
+
+   Alarms are written into the register's bytes here, by the offsets of docs/layout.json: each raise checks the whole register, so that
+   filling it by calls would take time with the square of its records.
+
+     rt staticlib station
+     gcc -O2 -Wall -Wextra bench/soundness.c target/staticlib/libstation.a -o target/soundness && target/soundness */
+#include <stdint.h>
+#include <stdio.h>
+#include <stdlib.h>
+#include <string.h>
+#include <time.h>
+
+uint32_t alarm_open(uint8_t *reg, size_t reg_len, uint32_t active, uint32_t history, uint32_t audit, uint64_t *length);
+uint32_t alarm_step(uint8_t *reg, size_t reg_len, const uint8_t *call, size_t call_len, uint8_t *answer, size_t answer_len,
+                    uint64_t *length);
+
+enum { WIDTH = 1536, NOT_SOUND = 22, EMPTY_CALL = 23 };
+
+/* A register is measured so often that this many records are looked at: small ones more often than large ones. */
+enum { LEAST_RECORDS = 1000, LOOKED_AT = 2100000, MOST_RUNS = LOOKED_AT / LEAST_RECORDS };
+
+/* docs/layout.json: where the header has a chain's head, which the chain's length follows; where a record has an alarm's fields */
+enum { ACTIVE_HEAD = 12, HISTORY_HEAD = 20, FREE_HEAD = 36 };
+enum {
+    NEXT = 0, KEY = 4, SEVERITY = 20, RAISED_AT = 22, UPDATED_AT = 30, ID = 47, TYPE = 113, CAUSE = 179, OBJECT_KIND = 277,
+    OBJECT_FIRST = 278, OBJECT_SECOND = 345, TENANT = 413, TEXT = 678, DETAILS = 936, SPARE = 1464
+};
+
+typedef struct {
+    uint8_t *bytes;
+    size_t size;
+    uint32_t records, active, history, audit;
+} Register;
+
+typedef struct {
+    double least, median;
+} Times;
+
+static void fail(const char *what) {
+    fprintf(stderr, "soundness: %s\n", what);
+    exit(1);
+}
+
+static double now(void) {
+    struct timespec t;
+    clock_gettime(CLOCK_MONOTONIC, &t);
+    return (double)t.tv_sec * 1e9 + (double)t.tv_nsec;
+}
+
+static void put(uint8_t *at, uint64_t value, size_t width) {
+    for (size_t i = width; 0 < i; value >>= 8)
+        at[--i] = (uint8_t)value;
+}
+
+static void put_string(uint8_t *slot, const char *text) {
+    size_t n = strlen(text);
+    put(slot, n, 2);
+    memcpy(slot + 2, text, n);
+}
+
+static void put_option(uint8_t *slot, const char *text) {
+    slot[0] = 1;
+    put_string(slot + 1, text);
+}
+
+/* ---- registers */
+
+static Register opened(uint32_t records) {
+    Register r = {.size = (size_t)WIDTH * (1 + (size_t)records), .records = records};
+    r.audit = 1;
+    r.history = records / 2;
+    r.active = records - r.history - r.audit;
+    r.bytes = malloc(r.size);
+    uint64_t length;
+    if (r.bytes == NULL)
+        fail("no memory");
+    if (alarm_open(r.bytes, r.size, r.active, r.history, r.audit, &length) != 0)
+        fail("a register was not opened");
+    return r;
+}
+
+/* A typical alarm, active and major: an id of 20 bytes, a cause by name, an object of two strings, a tenant, a text of 60 bytes and details
+   of 80. */
+static void put_alarm(uint8_t *record, uint32_t i) {
+    char id[32], instance[32], text[64], details[96];
+    snprintf(id, sizeof id, "station-alarm-%06u", i);
+    snprintf(instance, sizeof instance, "winch-drive-%06u", i);
+    snprintf(text, sizeof text, "%-60s", "Peer has not answered three polls in a row; the car holds.");
+    snprintf(details, sizeof details, "%-80s", "{\"polls\":3,\"timeout_ms\":250,\"line\":\"upper\",\"car\":2,\"speed\":0.0}");
+    for (int k = 0; k < 16; k++)
+        record[KEY + k] = (uint8_t)(i * 2654435761u >> (k & 24));
+    record[SEVERITY] = 1;
+    put(record + RAISED_AT, 1800000000000000000u + i, 8);
+    put(record + UPDATED_AT, 1800000000000000000u + i, 8);
+    put_string(record + ID, id);
+    put_string(record + TYPE, "communications");
+    put_string(record + CAUSE, "peer-unreachable");
+    record[OBJECT_KIND] = 1;
+    put_string(record + OBJECT_FIRST, "drive");
+    put_string(record + OBJECT_SECOND, instance);
+    put_option(record + TENANT, "upper-station");
+    put_string(record + TEXT, text);
+    put_option(record + DETAILS, details);
+}
+
+static void put_head(Register r, size_t head, uint32_t first, uint32_t count) {
+    put(r.bytes + head, first, 4);
+    put(r.bytes + head + 4, count, 4);
+}
+
+/* A chain of alarms in `count` records from `first` on. */
+static void put_chain(Register r, size_t head, uint32_t first, uint32_t count) {
+    put_head(r, head, first, count);
+    for (uint32_t i = first; i < first + count; i++) {
+        uint8_t *record = r.bytes + (size_t)WIDTH * i;
+        put(record + NEXT, i + 1 < first + count ? i + 1 : 0, 4);
+        put_alarm(record, i);
+    }
+}
+
+/* Active chain and history are full; the record for an audit event stays free. */
+static void fill(Register r) {
+    put_chain(r, ACTIVE_HEAD, 1, r.active);
+    put_chain(r, HISTORY_HEAD, 1 + r.active, r.history);
+    put_head(r, FREE_HEAD, r.records, r.audit);
+}
+
+/* ---- measuring */
+
+static uint32_t check(Register r) {
+    uint8_t none = 0;
+    uint64_t length;
+    return alarm_step(r.bytes, r.size, &none, 0, &none, 0, &length);
+}
+
+static int by_size(const void *a, const void *b) {
+    double x = *(const double *)a, y = *(const double *)b;
+    return (x > y) - (x < y);
+}
+
+static Times summary(double *runs, size_t count) {
+    qsort(runs, count, sizeof *runs, by_size);
+    return (Times){runs[0], runs[count / 2]};
+}
+
+static Times check_times(Register r) {
+    double runs[MOST_RUNS];
+    size_t count = LOOKED_AT / r.records;
+    for (size_t k = 0; k < count; k++) {
+        double began = now();
+        uint32_t number = check(r);
+        runs[k] = now() - began;
+        if (number != EMPTY_CALL)
+            fail("a sound register was not taken for sound");
+    }
+    return summary(runs, count);
+}
+
+static Times copy_times(Register r) {
+    double runs[MOST_RUNS];
+    size_t count = LOOKED_AT / r.records;
+    uint8_t *copy = malloc(r.size);
+    if (copy == NULL)
+        fail("no memory");
+    memset(copy, 1, r.size);
+    for (size_t k = 0; k < count; k++) {
+        double began = now();
+        memcpy(copy, r.bytes, r.size);
+        __asm__ volatile("" : : "r"(copy) : "memory");
+        runs[k] = now() - began;
+    }
+    free(copy);
+    return summary(runs, count);
+}
+
+/* The check reads to the end: a stray byte in history's last record is seen. */
+static void see_damage(Register r) {
+    uint8_t *stray = r.bytes + (size_t)WIDTH * (r.active + r.history) + SPARE;
+    *stray = 1;
+    if (check(r) != NOT_SOUND)
+        fail("a damaged register was taken for sound");
+    *stray = 0;
+}
+
+static void print_times(Register r, Times t) {
+    printf("  %8.1f %8.1f %7.2f", t.least / r.records, t.median / r.records, (double)r.size / t.least);
+}
+
+static void measure(Register r, const char *kind) {
+    see_damage(r);
+    printf("%8u  %-6s", r.records, kind);
+    print_times(r, check_times(r));
+    print_times(r, copy_times(r));
+    printf("\n");
+}
+
+int main(void) {
+    const uint32_t sizes[] = {LEAST_RECORDS, 10000, 100000};
+    printf("                  check, ns per record       memcpy, ns per record\n");
+    printf(" records  all        least   median    GB/s     least   median    GB/s\n");
+    for (size_t k = 0; k < sizeof sizes / sizeof *sizes; k++) {
+        Register r = opened(sizes[k]);
+        measure(r, "free");
+        fill(r);
+        measure(r, "alarms");
+        free(r.bytes);
+    }
+    return 0;
+}
