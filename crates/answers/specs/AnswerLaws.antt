@@ -1,6 +1,6 @@
 -- Laws of answers written part by part: a head, a body behind it, and what the two are.
-use mathlib.Core.Path.{_≡_, sym, ap, _∙_}
-use mathlib.Core.List.{_++_, append-assoc}
+use mathlib.Core.Path.{_≡_, refl, sym, ap, _∙_}
+use mathlib.Core.List.{List, [], _∷_, _++_, append-assoc, append-nil}
 use Prim.Native.Nat.{ℕ, _+_, _≤_}
 use native.Mathlib.Omega.{arith}
 use lib.ListN.{length, take, drop, length-append}
@@ -8,12 +8,13 @@ use lib.Seq.{take-at, drop-at, length-take-le, take-take}
 use Rattle.octets.specs.Bytes.{Bytes, be32, be64, splice}
 use Rattle.octets.specs.NumberLaws.{length-digits}
 use Rattle.octets.specs.Put.{Put}
-use Rattle.definition.specs.Alarm.{Alarm}
+use Rattle.definition.specs.Alarm.{Alarm, Event}
+use Rattle.definition.specs.Key.{string}
 use Rattle.definition.specs.Record.{alarmBytes}
 use Rattle.definition.specs.Station.{Step}
 use Rattle.definition.specs.MoveLaws.{Does}
 use Rattle.definition.specs.ReplyLaws.{Answers}
-use Rattle.definition.specs.Answer.{Answer, Head, head, headOf, headBytes, body, answerBytes}
+use Rattle.definition.specs.Answer.{Answer, Count, Head, head, headOf, headBytes, alarmRecord, eventRecord, alarmRecords, eventRecords, countEntries, body, answerBytes}
 
 pub length-head : (h : Head) → length (headBytes h) ≡ 16
 length-head h =
@@ -27,7 +28,7 @@ answer-as x p q = rw (p, q)
 
 -- an alarm, from the bytes of its record
 pub alarm-as :
-    (x : Answer) (a : Alarm) {c : ℕ} {p : Bytes} → headOf x ≡ head c 1 0 → body x ≡ be32 0 ++ alarmBytes a → alarmBytes a ≡ p →
+    (x : Answer) (a : Alarm) {c : ℕ} {p : Bytes} → headOf x ≡ head c 1 0 → body x ≡ alarmRecord a → alarmBytes a ≡ p →
     headBytes (head c 1 0) ++ (be32 0 ++ p) ≡ answerBytes x
 alarm-as x a h b e = answer-as x h (b ∙ ap (λ (t : Bytes). be32 0 ++ t) e)
 
@@ -59,3 +60,20 @@ put-list {a} {v = v} h p q =
       fits = p .fits;
       bytes = q .bytes ∙ ap (λ (t : Bytes). splice t 0 (headBytes h)) (p .bytes) ∙ splice-before a (headBytes h) v 0 16 (omega arith) (omega (arith, p .next, p .fits));
     }
+
+-- one more entry, behind the others
+behind : {A : Type 0} (f : List A → Bytes) (g : A → Bytes) → f [] ≡ [] → ((a : A) (l : List A) → f (a ∷ l) ≡ g a ++ f l) → (l : List A) (a : A) → f (l ++ (a ∷ [])) ≡ f l ++ g a
+behind f g n c [] a = c a [] ∙ rw (n, append-nil)
+behind f g n c (b ∷ l) a = c b (l ++ (a ∷ [])) ∙ rw (behind f g n c l a, c b l, append-assoc)
+
+pub alarms-behind : (l : List Alarm) (a : Alarm) → alarmRecords (l ++ (a ∷ [])) ≡ alarmRecords l ++ alarmRecord a
+unfolding alarmRecords
+alarms-behind l a = behind alarmRecords alarmRecord refl (λ b k. refl) l a
+
+pub events-behind : (l : List Event) (e : Event) → eventRecords (l ++ (e ∷ [])) ≡ eventRecords l ++ eventRecord e
+unfolding eventRecords
+events-behind l e = behind eventRecords eventRecord refl (λ b k. refl) l e
+
+pub counts-behind : (l : List Count) (n : Count) → countEntries (l ++ (n ∷ [])) ≡ countEntries l ++ (n .severity ∷ (be32 (n .amount) ++ string (n .cause)))
+unfolding countEntries
+counts-behind l n = behind countEntries (λ (k : Count). k .severity ∷ (be32 (k .amount) ++ string (k .cause))) refl (λ b k. refl) l n

@@ -1,13 +1,15 @@
 // The bytes of answers: a head of 16, and a body behind it. Each function returns the place behind what it wrote.
+use model::CauseSpan;
 ghost use mathlib.Core.Path.{_≡_};
-ghost use mathlib.Core.List.{_++_};
+ghost use mathlib.Core.List.{_∷_, _++_};
 ghost use Prim.Native.Nat.{_+_, _≤_, _<_};
 ghost use lib.ListN.{length};
 ghost use Rattle.octets.specs.Bytes.{be32};
 ghost use Rattle.octets.specs.Put.{Put};
 ghost use Rattle.definition.specs.Book.{payloadWidth};
-ghost use Rattle.definition.specs.Key.{string};
-ghost use Rattle.definition.specs.Answer.{Expired, head, headBytes, answerBytes};
+ghost use Rattle.definition.specs.Key.{string, hex};
+ghost use Rattle.definition.specs.Answer.{ClearWithoutActive, ActiveLimitExceeded, Expired, Summary, head, headBytes, answerBytes};
+ghost use Rattle.model.specs.Meaning.{causePart, causeWithin};
 
 // A head: code, three zeros, item count, number.
 pub fn put_head(answer: &mut [u8], code: u8, count: u32, number: u64) -> usize
@@ -32,16 +34,16 @@ pub fn put_record(answer: &mut [u8], at: usize, payload: &[u8]) -> usize
     at + 1536
 }
 
-// A string as in a call: its length and its bytes.
-pub fn put_string(answer: &mut [u8], at: usize, s: &[u8]) -> usize
-    requires { ⌜ (at + (4 + length (now s)) ≤ length (now answer)) × (length (now s) < 4294967296) ⌝ }
-    ensures { λ r. ⌜ Put (now (answer .entry)) at (string (now (s .entry))) r (now (answer .exit)) ⌝ }
+// How many active alarms have a severity and a cause, as operation 10 lists it.
+pub fn put_count(answer: &mut [u8], at: usize, severity: u8, amount: u32, cause: &[u8]) -> usize
+    requires { ⌜ (at + (9 + length (now cause)) ≤ length (now answer)) × (length (now cause) < 4294967296) ⌝ }
+    ensures { λ r. ⌜ Put (now (answer .entry)) at (severity ∷ (be32 amount ++ string (now (cause .entry)))) r (now (answer .exit)) ⌝ }
 {
-    let n = s.len();
-    octets::put32(answer, at, n as u32);
-    let a = at + 4;
-    octets::put_bytes(answer, a, s);
-    a + n
+    octets::put_byte(answer, at, severity);
+    let n = at + 1;
+    octets::put32(answer, n, amount);
+    let m = at + 5;
+    strings::put_string(answer, m, cause)
 }
 
 // ---- whole answers
@@ -61,7 +63,7 @@ pub fn put_text(answer: &mut [u8], code: u8, s: &[u8]) -> usize
     ensures { λ r. ⌜ Put (now (answer .entry)) 0 (headBytes (head code 0 0) ++ string (now (s .entry))) r (now (answer .exit)) ⌝ }
 {
     let n = put_head(answer, code, 0, 0);
-    put_string(answer, n, s)
+    strings::put_string(answer, n, s)
 }
 
 // How many alarms an expiry took: operation 7.
@@ -70,4 +72,61 @@ pub fn put_number(answer: &mut [u8], n: u64) -> usize
     ensures { λ r. ⌜ Put (now (answer .entry)) 0 (answerBytes (Expired n)) r (now (answer .exit)) ⌝ }
 {
     put_head(answer, 11, 0, n)
+}
+
+// ---- a key, as codes 4 and 5 begin
+
+// A head, and the key's digits.
+fn put_key(answer: &mut [u8], code: u8, number: u64, key: &[u8]) -> usize
+    requires { ⌜ (48 ≤ length (now answer)) × (length (now key) ≡ 16) ⌝ }
+    ensures { λ r. ⌜ Put (now (answer .entry)) 0 (headBytes (head code 0 number) ++ hex (now (key .entry))) r (now (answer .exit)) ⌝ }
+{
+    let n = put_head(answer, code, 0, number);
+    key::put_hex(answer, n, key);
+    n + 32
+}
+
+// A clear that found no active alarm: its key, and its cause in the stored form.
+pub fn put_without(answer: &mut [u8], key: &[u8], call: &[u8], cause: CauseSpan) -> usize
+    requires { ⌜ (148 ≤ length (now answer)) × (length (now key) ≡ 16) × causeWithin (now call) cause ⌝ }
+    ensures { λ r.
+        ⌜ Put (now (answer .entry)) 0 (answerBytes (ClearWithoutActive (now (key .entry)) (causePart (now (call .entry)) cause))) r (now (answer .exit)) ⌝ }
+{
+    let n = put_key(answer, 4, 0, key);
+    strings::put_cause(answer, n, call, cause)
+}
+
+// A raise that found the active chain full: its key, and the limit.
+pub fn put_limit(answer: &mut [u8], key: &[u8], n: u64) -> usize
+    requires { ⌜ (48 ≤ length (now answer)) × (length (now key) ≡ 16) ⌝ }
+    ensures { λ r. ⌜ Put (now (answer .entry)) 0 (answerBytes (ActiveLimitExceeded (now (key .entry)) n)) r (now (answer .exit)) ⌝ }
+{
+    put_key(answer, 5, n, key)
+}
+
+// ---- operation 11
+
+pub fn put_summary(
+    answer: &mut [u8],
+    active: u64,
+    worst: u8,
+    readiness: u8,
+    successes: u64,
+    failures: u64,
+) -> usize
+    requires { ⌜ 34 ≤ length (now answer) ⌝ }
+    ensures { λ r.
+        ⌜ Put
+        (now (answer .entry))
+        0
+        (answerBytes (Summary (record { active = active; worst = worst; readiness = readiness; successes = successes; failures = failures })))
+        r
+        (now (answer .exit)) ⌝ }
+{
+    put_head(answer, 11, 0, active);
+    octets::put_byte(answer, 16, worst);
+    octets::put_byte(answer, 17, readiness);
+    octets::put64(answer, 18, successes);
+    octets::put64(answer, 26, failures);
+    34
 }

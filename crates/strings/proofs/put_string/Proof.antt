@@ -2,15 +2,15 @@
 use native.Mathlib.Omega.{arith}
 use Rattle.definition.specs.StringLaws.{put-string}
 use borrow.Author.Needs.{needs}
-use Rattle.answers.proofs.put_string.Statement.{statement}
-use Rattle.answers.proofs.put_string.Tie as tie
+use Rattle.strings.proofs.put_string.Statement.{statement}
+use Rattle.strings.proofs.put_string.Tie as tie
 
 returns : tie.Need-returns
 returns c =
     let s = c .before .before .before .before .before .before .before .before .before .before .args in
     let length-put = c .before .before .before .before .before .before .put32 in
     let bytes-put = c .before .before .put-bytes in
-    put-string (s .answer .now) (length-put .last .0) (bytes-put .last .0) (s .s .now) (s .at) (length-put .ensures) (bytes-put .ensures) (omega arith)
+    put-string (s .buf .now) (length-put .last .0) (bytes-put .last .0) (s .s .now) (s .at) (length-put .ensures) (bytes-put .ensures) (omega arith)
 
 pub put-string-spec : {M : Type 1} → statement M
 put-string-spec =

@@ -1,0 +1,26 @@
+-- `put_key` meets its contract: the digits stand behind the head.
+use native.Mathlib.Omega.{arith}
+use Rattle.octets.specs.PutLaws.{put-two}
+use Rattle.definition.specs.Answer.{head}
+use Rattle.definition.specs.KeyLaws.{length-hex}
+use Rattle.answers.specs.AnswerLaws.{length-head}
+use borrow.Author.Needs.{needs}
+use Rattle.answers.proofs.put_key.Statement.{statement}
+use Rattle.answers.proofs.put_key.Tie as tie
+
+put-hex-requires : tie.Need-put-hex-requires
+put-hex-requires c κs =
+    let s = c .before .before .before .before .before .before .before .args in
+    omega (arith, c .before .before .before .put-head .ensures .next, length-head (head (s .code) 0 (s .number)))
+
+returns : tie.Need-returns
+returns c =
+    let s = c .before .before .before .before .before .before .before .before .before .before .args in
+    let h = c .before .before .before .before .before .before .put-head .ensures in
+    let l = length-hex (s .key .now) in
+    let m = length-head (head (s .code) 0 (s .number)) in
+    put-two h (record { next = omega arith; fits = omega (arith, h .next); bytes = c .before .before .put-hex .ensures })
+
+pub put-key-spec : {M : Type 1} → statement M
+put-key-spec =
+    tie.close (tie.spec (λ c κs. search needs) put-hex-requires (λ c. search needs) (λ c. search needs) returns)

@@ -1,0 +1,60 @@
+// Strings as in a call, their length before their bytes, put into a slice. Each function returns the place behind what it put.
+use model::CauseSpan;
+use model::Span;
+ghost use mathlib.Core.List.{[], _++_};
+ghost use Prim.Native.Nat.{_+_, _≤_, _<_};
+ghost use lib.ListN.{length, getD};
+ghost use Rattle.octets.specs.Put.{Put};
+ghost use Rattle.definition.specs.Limits.{causeLimit};
+ghost use Rattle.definition.specs.Cause.{names, other};
+ghost use Rattle.definition.specs.Key.{string};
+ghost use Rattle.model.specs.Meaning.{part, causePart, causeWithin};
+
+pub fn put_string(buf: &mut [u8], at: usize, s: &[u8]) -> usize
+    requires { ⌜ (at + (4 + length (now s)) ≤ length (now buf)) × (length (now s) < 4294967296) ⌝ }
+    ensures { λ r. ⌜ Put (now (buf .entry)) at (string (now (s .entry))) r (now (buf .exit)) ⌝ }
+{
+    let n = s.len();
+    octets::put32(buf, at, n as u32);
+    let a = at + 4;
+    octets::put_bytes(buf, a, s);
+    a + n
+}
+
+// ---- a cause, in its stored form
+
+// A name by its place; the longest has 28 letters.
+fn put_name(buf: &mut [u8], at: usize, k: usize) -> usize
+    requires { ⌜ (at + 32 ≤ length (now buf)) × (k < 21) ⌝ }
+    ensures { λ r. ⌜ Put (now (buf .entry)) at (string (getD names k [])) r (now (buf .exit)) ⌝ }
+{
+    let mut name = [0u8; 28];
+    let n = cause::put_name(&mut name, 0, k);
+    put_string(buf, at, &name[..n])
+}
+
+// `other:` and the trimmed name.
+fn put_other(buf: &mut [u8], at: usize, call: &[u8], p: Span) -> usize
+    requires { ⌜ (at + (4 + causeLimit) ≤ length (now buf)) × (p .at + p .len ≤ length (now call)) × (6 + p .len ≤ causeLimit) ⌝ }
+    ensures { λ r. ⌜ Put (now (buf .entry)) at (string (other ++ part (now (call .entry)) p)) r (now (buf .exit)) ⌝ }
+{
+    let n = p.len;
+    let a = p.at;
+    let e = a + n;
+    octets::put32(buf, at, (6 + n) as u32);
+    let mark = at + 4;
+    octets::put_bytes(buf, mark, b"other:");
+    let name = at + 10;
+    octets::put_bytes(buf, name, &call[a..e]);
+    name + n
+}
+
+pub fn put_cause(buf: &mut [u8], at: usize, call: &[u8], c: CauseSpan) -> usize
+    requires { ⌜ (at + (4 + causeLimit) ≤ length (now buf)) × causeWithin (now call) c ⌝ }
+    ensures { λ r. ⌜ Put (now (buf .entry)) at (string (causePart (now (call .entry)) c)) r (now (buf .exit)) ⌝ }
+{
+    match c {
+        CauseSpan::Name(k) => put_name(buf, at, k),
+        CauseSpan::Other(p) => put_other(buf, at, call, p),
+    }
+}
