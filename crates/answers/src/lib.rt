@@ -96,7 +96,7 @@ pub fn put_without(answer: &mut [u8], key: &[u8], call: &[u8], cause: CauseSpan)
     strings::put_cause(answer, n, call, cause)
 }
 
-// A raise that found the active chain full: its key, and the limit.
+// A raise that found the active chain full: its key, and the limit of that chain.
 pub fn put_limit(answer: &mut [u8], key: &[u8], n: u64) -> usize
     requires { ⌜ (48 ≤ length (now answer)) × (length (now key) ≡ 16) ⌝ }
     ensures { λ r. ⌜ Put (now (answer .entry)) 0 (answerBytes (ActiveLimitExceeded (now (key .entry)) n)) r (now (answer .exit)) ⌝ }
