@@ -1,0 +1,4 @@
+pub mod Meaning
+pub mod DoesLaws
+pub mod HeldLaws
+pub mod FileLaws
