@@ -1,0 +1,12 @@
+-- What an operation's reply says of its step.
+use Rattle.octets.specs.Bytes.{Bytes}
+use Rattle.definition.specs.Station.{Step}
+use Rattle.definition.specs.Answer.{Answer}
+use Rattle.definition.specs.ReplyLaws.{Answers, Refuses}
+use Rattle.reply.specs.declared.Reply.{Reply}
+use Rattle.reply.specs.declared.Reply.the-variants.{Answered, Refused}
+
+-- the step m, on a register that was b and is b′ and an answer slice that was a and is a′: it is done and answered, or refused and nothing changes
+abbrev pub Replies : Reply → Step Answer → Bytes → Bytes → Bytes → Bytes → Type 0
+Replies (Answered n) m b b′ a a′ = Answers m b b′ a a′ n
+Replies (Refused k) m b b′ a a′ = Refuses m b b′ a a′ k
