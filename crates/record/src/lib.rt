@@ -59,6 +59,8 @@ impl EventAt {
 
     pub const OUTCOME: usize = 1;
 
+    pub const OCCURRED_AT: usize = 2;
+
     pub const ID: usize = 10;
 
     pub const TYPE: usize = 76;
@@ -162,7 +164,7 @@ pub fn same_alarm(p: &[u8], q: &[u8]) -> bool
 // ---- fields changed
 
 // The slot of a string of at most n bytes.
-fn put_string(p: &mut [u8], at: usize, n: usize, s: &[u8])
+pub fn put_string(p: &mut [u8], at: usize, n: usize, s: &[u8])
     requires { ⌜ (at + (2 + n) ≤ length (now p)) × (length (now s) ≤ n) × (n ≤ detailsLimit) ⌝ }
     ensures { λ _. ⌜ now (p .exit) ≡ splice (now (p .entry)) at (stringBytes n (now (s .entry))) ⌝ }
 {
@@ -174,12 +176,12 @@ fn put_string(p: &mut [u8], at: usize, n: usize, s: &[u8])
     octets::put_zeros(p, b, n - m);
 }
 
-// The slot of an optional string that is there.
-fn put_some(p: &mut [u8], at: usize, n: usize, s: &[u8])
+// A byte, and the slot of a string behind it: an option that is there, or a kind with its string.
+pub fn put_marked(p: &mut [u8], at: usize, n: usize, mark: u8, s: &[u8])
     requires { ⌜ (at + (3 + n) ≤ length (now p)) × (length (now s) ≤ n) × (n ≤ detailsLimit) ⌝ }
-    ensures { λ _. ⌜ now (p .exit) ≡ splice (now (p .entry)) at (1 ∷ stringBytes n (now (s .entry))) ⌝ }
+    ensures { λ _. ⌜ now (p .exit) ≡ splice (now (p .entry)) at (mark ∷ stringBytes n (now (s .entry))) ⌝ }
 {
-    octets::put_byte(p, at, 1);
+    octets::put_byte(p, at, mark);
     let a = at + 1;
     put_string(p, a, n, s);
 }
@@ -224,7 +226,7 @@ pub fn set_details(p: &mut [u8], s: &[u8])
     requires { ⌜ (length (now p) ≡ payloadWidth) × (length (now s) ≤ detailsLimit) ⌝ }
     ensures { λ _. ⌜ Becomes (withDetails (some (now (s .entry)))) 932 (1 ∷ stringBytes detailsLimit (now (s .entry))) (now (p .entry)) (now (p .exit)) ⌝ }
 {
-    put_some(p, AlarmAt::DETAILS, Record::DETAILS, s);
+    put_marked(p, AlarmAt::DETAILS, Record::DETAILS, 1, s);
 }
 
 pub fn no_details(p: &mut [u8])

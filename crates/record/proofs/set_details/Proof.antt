@@ -15,7 +15,7 @@ use Rattle.record.proofs.set_details.Tie as tie
 returns : tie.Need-returns
 returns c =
     let s = c .before .before .before .before .before .before .args .s .now in
-    becomes 14 (withDetails (some s)) (1 ∷ stringBytes 512 s) _ _ (omega arith) (ap suc (length-string 512 s)) (c .before .before .put-some .ensures) (λ a. refl)
+    becomes 14 (withDetails (some s)) (1 ∷ stringBytes 512 s) _ _ (omega arith) (ap suc (length-string 512 s)) (c .before .before .put-marked .ensures) (λ a. refl)
 
 pub set-details-spec : {M : Type 1} → statement M
 set-details-spec = tie.close (tie.spec (λ c κs. search needs) (λ c. search needs) returns)

@@ -1,0 +1,4 @@
+pub mod Wrote
+pub mod Stretches
+pub mod Stored
+pub mod Cases

@@ -1,0 +1,34 @@
+-- Zeros, or byte 1 and the string.
+use mathlib.Core.Path.{_∙_}
+use Rattle.build.proofs.Stretches.{absent}
+use Rattle.build.proofs.Cases.{option-case, option-slot}
+use borrow.Author.Needs.{needs}
+use Rattle.build.proofs.slots.option_into.Statement.{statement}
+use Rattle.build.proofs.slots.option_into.Tie as tie
+
+marked-into-requires : tie.Need-marked-into-requires
+marked-into-requires c κs = let s = c .before .before .before .before .before .before in (search needs, search needs, option-case _ (s .args .n) (c .before .before .s .given .1) (s .pre .2))
+
+returns : tie.Need-returns
+returns c =
+    let s = c .before .before .before .before .before .before .before .before .args in
+    c .before .before .put-zeros .ensures ∙ absent (s .p .now) (s .at) (s .n) ∙ option-slot (s .call .now) (s .p .now) (s .at) (s .n) (c .before .before .before .before .enum-told .given .1)
+
+returns-2 : tie.Need-returns-2
+returns-2 c =
+    let s = c .before .before .before .before .before .before .before .before .before .args in
+    c .before .before .marked-into .ensures ∙ option-slot (s .call .now) (s .p .now) (s .at) (s .n) (c .before .before .before .before .before .s .given .1)
+
+pub option-into-spec : {M : Type 1} → statement M
+option-into-spec =
+    tie.close
+    (tie.spec
+    (λ c. search needs)
+    (λ c. search needs)
+    (λ c κs. search needs)
+    (λ c. search needs)
+    marked-into-requires
+    (λ c. search needs)
+    returns
+    (λ c. search needs)
+    returns-2)

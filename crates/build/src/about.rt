@@ -1,0 +1,108 @@
+// The cause and the affected object of an alarm, from the places where they stand in a call.
+use super::slots;
+use model::AffectedObject;
+use model::CauseSpan;
+use model::OptSpan;
+use model::Record;
+use model::Span;
+use record::AlarmAt;
+ghost use mathlib.Core.Path.{_≡_};
+ghost use mathlib.Core.List.{[], _∷_, _++_};
+ghost use Prim.Native.Nat.{_+_, _≤_, _<_};
+ghost use lib.ListN.{length, getD};
+ghost use Rattle.octets.specs.Bytes.{zeros, splice};
+ghost use Rattle.definition.specs.Limits.{shortLimit, causeLimit};
+ghost use Rattle.definition.specs.Book.{payloadWidth};
+ghost use Rattle.definition.specs.Cause.{names, other};
+ghost use Rattle.definition.specs.Slot.{join, option};
+ghost use Rattle.definition.specs.Record.{short, causeSlot, objectParts, objectSlot};
+ghost use Rattle.model.specs.Meaning.{part, optPart, causePart, objectValue, within, optWithin, causeWithin, objectWithin};
+
+// ---- the cause, in its stored form
+
+// A name, by its place.
+fn name_into(p: &mut [u8], k: usize)
+    requires { ⌜ (length (now p) ≡ payloadWidth) × (k < 21) ⌝ }
+    ensures { λ _. ⌜ now (p .exit) ≡ splice (now (p .entry)) 175 (causeSlot .put (getD names k [])) ⌝ }
+{
+    let mut stored = [0u8; 96];
+    let n = cause::put_name(&mut stored, 0, k);
+    record::put_string(p, AlarmAt::CAUSE, Record::CAUSE, &stored[..n]);
+}
+
+// `other:` and the trimmed name.
+fn other_into(p: &mut [u8], call: &[u8], s: Span)
+    requires { ⌜ (length (now p) ≡ payloadWidth) × (s .at + s .len ≤ length (now call)) × (6 + s .len ≤ causeLimit) ⌝ }
+    ensures { λ _. ⌜ now (p .exit) ≡ splice (now (p .entry)) 175 (causeSlot .put (other ++ part (now (call .entry)) s)) ⌝ }
+{
+    let a = s.at;
+    let n = s.len;
+    let e = a + n;
+    let mut stored = [0u8; 96];
+    octets::put_bytes(&mut stored, 0, b"other:");
+    octets::put_bytes(&mut stored, 6, &call[a..e]);
+    let m = 6 + n;
+    record::put_string(p, AlarmAt::CAUSE, Record::CAUSE, &stored[..m]);
+}
+
+pub fn cause_into(p: &mut [u8], call: &[u8], c: CauseSpan)
+    requires { ⌜ (length (now p) ≡ payloadWidth) × causeWithin (now call) c ⌝ }
+    ensures { λ _. ⌜ now (p .exit) ≡ splice (now (p .entry)) 175 (causeSlot .put (causePart (now (call .entry)) c)) ⌝ }
+{
+    match c {
+        CauseSpan::Name(k) => name_into(p, k),
+        CauseSpan::Other(s) => other_into(p, call, s),
+    }
+}
+
+// ---- the affected object
+
+// Two strings, and a queue, which is 0 where the kind has none.
+fn pair_into(p: &mut [u8], call: &[u8], kind: u8, a: Span, b: Span, queue: u16)
+    requires { ⌜ (length (now p) ≡ payloadWidth) × within (now call) shortLimit a × within (now call) shortLimit b ⌝ }
+    ensures { λ _. ⌜ now (p .exit) ≡ splice (now (p .entry)) 273 (join (objectParts kind (part (now (call .entry)) a) (0 ∷ short .put (part (now (call .entry)) b)) queue)) ⌝ }
+{
+    slots::marked_into(p, AlarmAt::OBJECT, Record::SHORT, kind, call, a);
+    slots::marked_into(p, AlarmAt::OBJECT + 67, Record::SHORT, 0, call, b);
+    octets::put16(p, AlarmAt::OBJECT + 134, queue);
+}
+
+// One string.
+fn single_into(p: &mut [u8], call: &[u8], kind: u8, a: Span)
+    requires { ⌜ (length (now p) ≡ payloadWidth) × within (now call) shortLimit a ⌝ }
+    ensures { λ _. ⌜ now (p .exit) ≡ splice (now (p .entry)) 273 (join (objectParts kind (part (now (call .entry)) a) (zeros 67) 0)) ⌝ }
+{
+    slots::marked_into(p, AlarmAt::OBJECT, Record::SHORT, kind, call, a);
+    octets::put_zeros(p, AlarmAt::OBJECT + 67, 67);
+    octets::put16(p, AlarmAt::OBJECT + 134, 0);
+}
+
+// A session store, with its shard.
+fn store_into(p: &mut [u8], call: &[u8], a: Span, shard: OptSpan)
+    requires { ⌜ (length (now p) ≡ payloadWidth) × within (now call) shortLimit a × optWithin (now call) shortLimit shard ⌝ }
+    ensures { λ _. ⌜ now (p .exit) ≡ splice (now (p .entry)) 273 (join (objectParts 4 (part (now (call .entry)) a) (option short .put (optPart (now (call .entry)) shard)) 0)) ⌝ }
+{
+    slots::marked_into(p, AlarmAt::OBJECT, Record::SHORT, 4, call, a);
+    slots::option_into(p, AlarmAt::OBJECT + 67, Record::SHORT, call, shard);
+    octets::put16(p, AlarmAt::OBJECT + 134, 0);
+}
+
+pub fn object_into(p: &mut [u8], call: &[u8], o: AffectedObject)
+    requires { ⌜ (length (now p) ≡ payloadWidth) × objectWithin (now call) o ⌝ }
+    ensures { λ _. ⌜ now (p .exit) ≡ splice (now (p .entry)) 273 (objectSlot .put (objectValue (now (call .entry)) o)) ⌝ }
+{
+    match o {
+        AffectedObject::NfInstance { kind, instance } => pair_into(p, call, 1, kind, instance, 0),
+        AffectedObject::Interface { nf, name } => pair_into(p, call, 2, nf, name, 0),
+        AffectedObject::Peer { nf, peer_id } => pair_into(p, call, 3, nf, peer_id, 0),
+        AffectedObject::SessionStore { nf, shard } => store_into(p, call, nf, shard),
+        AffectedObject::Slice { snssai } => single_into(p, call, 5, snssai),
+        AffectedObject::Tenant { tenant } => single_into(p, call, 6, tenant),
+        AffectedObject::Certificate { key_id } => single_into(p, call, 7, key_id),
+        AffectedObject::DataPlaneQueue {
+            nf,
+            interface,
+            queue,
+        } => pair_into(p, call, 8, nf, interface, queue),
+    }
+}

@@ -1,0 +1,43 @@
+// Parts of a call in the slots of a record.
+use model::OptSpan;
+use model::Span;
+ghost use mathlib.Core.Path.{_≡_};
+ghost use mathlib.Core.List.{_∷_};
+ghost use Prim.Native.Nat.{_+_, _≤_};
+ghost use lib.ListN.{length};
+ghost use Rattle.octets.specs.Bytes.{splice};
+ghost use Rattle.definition.specs.Limits.{detailsLimit};
+ghost use Rattle.definition.specs.Slot.{string, stringBytes, option};
+ghost use Rattle.definition.specs.Record.{anyBytes};
+ghost use Rattle.model.specs.Meaning.{part, optPart, within, optWithin};
+
+// A part of the call, in the slot of a string of at most n bytes.
+pub fn part_into(p: &mut [u8], at: usize, n: usize, call: &[u8], s: Span)
+    requires { ⌜ (at + (2 + n) ≤ length (now p)) × (n ≤ detailsLimit) × within (now call) n s ⌝ }
+    ensures { λ _. ⌜ now (p .exit) ≡ splice (now (p .entry)) at (stringBytes n (part (now (call .entry)) s)) ⌝ }
+{
+    let a = s.at;
+    let e = a + s.len;
+    record::put_string(p, at, n, &call[a..e]);
+}
+
+// A byte before it.
+pub fn marked_into(p: &mut [u8], at: usize, n: usize, mark: u8, call: &[u8], s: Span)
+    requires { ⌜ (at + (3 + n) ≤ length (now p)) × (n ≤ detailsLimit) × within (now call) n s ⌝ }
+    ensures { λ _. ⌜ now (p .exit) ≡ splice (now (p .entry)) at (mark ∷ stringBytes n (part (now (call .entry)) s)) ⌝ }
+{
+    let a = s.at;
+    let e = a + s.len;
+    record::put_marked(p, at, n, mark, &call[a..e]);
+}
+
+// A part that may be absent.
+pub fn option_into(p: &mut [u8], at: usize, n: usize, call: &[u8], s: OptSpan)
+    requires { ⌜ (at + (3 + n) ≤ length (now p)) × (n ≤ detailsLimit) × optWithin (now call) n s ⌝ }
+    ensures { λ _. ⌜ now (p .exit) ≡ splice (now (p .entry)) at (option (string n anyBytes) .put (optPart (now (call .entry)) s)) ⌝ }
+{
+    match s {
+        OptSpan::Absent => octets::put_zeros(p, at, 3 + n),
+        OptSpan::Present(q) => marked_into(p, at, n, 1, call, q),
+    }
+}
