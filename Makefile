@@ -1,5 +1,6 @@
-# make test: all tests. make run: the main job. make fmt: the layout of every Rattle and antt file.
-.PHONY: test run fmt
+# make test: all tests. make run: the main job. make compare: the long comparison with the model and the Rust.
+# make fmt: the layout of every Rattle and antt file.
+.PHONY: test run compare fmt
 
 # rt ci proves every crate from nothing, tries the must-fail edits and runs the programs; the checks of tests/ follow.
 test:
@@ -9,6 +10,10 @@ run:
 	@echo "The main job, opening a register and stepping it by calls, is not built yet."
 	@echo "Today: the hash of the alarms' keys is proved, and run on published and generated messages."
 	@rt check sha256_vectors
+
+# The Rust is looked for in ../shared/docs/src; `make compare ARGS='--rust FOLDER --seed N --calls N'` takes other arguments.
+compare:
+	@python3 -B compare/run $(ARGS)
 
 fmt:
 	@rt fmt

@@ -1,0 +1,240 @@
+"""A list of calls stepped by the model and, beside it, by the register and by the Rust: every byte must be the same."""
+import collections
+import subprocess
+from typing import NamedTuple, Optional
+
+import imports  # noqa: F401  (finds the reading of calls)
+import model
+from orders import Counters, Given, Open, Step, results, written
+from original import Original
+from reading import line
+from records import alarm_of, alarm_record, put_number, unlinked
+from soundness import sound_chains
+
+
+class Tools(NamedTuple):
+    """Paths of the two programs; None where one is not there."""
+    driver: Optional[str] = None
+    oracle: Optional[str] = None
+
+
+class Case(NamedTuple):
+    """A list of orders, and its twin if it has one."""
+    orders: list
+    twin: Optional[list] = None
+
+    def lists(self):
+        return [self.orders] + ([self.twin] if self.twin else [])
+
+    def calls(self):
+        return sum(isinstance(order, Step) for orders in self.lists() for order in orders)
+
+
+class Difference(Exception):
+    """The place of the order after which something differs, and what."""
+
+
+class Outcome(NamedTuple):
+    """What an order gives: number, length, the answer slice, the register."""
+    number: int
+    length: int
+    answer: bytearray
+    register: bytearray
+
+
+def modelled(orders):
+    """The model's outcomes. The register is one and the same for all of them: it holds until the next is asked for."""
+    register = bytearray()
+    for order in orders:
+        number, length, answer = 0, 0, bytearray()
+        if isinstance(order, Open):
+            register = bytearray([order.former]) * order.size
+            number = model.open(register, *order.limits)
+        elif isinstance(order, Given):
+            register = bytearray(order.register)
+        elif isinstance(order, Counters):
+            put_number(register, "successes", order.successes)
+            put_number(register, "failures", order.failures)
+        else:
+            answer = bytearray([order.former]) * order.room
+            number, length = model.step(register, order.call, answer)
+        yield Outcome(number, length, answer, register)
+
+
+def ran(path, orders):
+    """What a program writes for a list; where it ends badly, what it wrote until then."""
+    return subprocess.run([path, "run"], input=written(orders), stdout=subprocess.PIPE, stderr=subprocess.DEVNULL).stdout
+
+
+class Register:
+    """The register of the driver, followed by the changes that it reports."""
+
+    def __init__(self, path, orders):
+        self.bytes, self.results = bytearray(), results(ran(path, orders))
+
+    def difference(self, order, outcome):
+        try:
+            number, length, answer, changes = next(self.results)
+        except StopIteration:
+            return "the driver ended"
+        if isinstance(order, Open):
+            self.bytes = bytearray([order.former]) * order.size
+        elif isinstance(order, Given):
+            self.bytes = bytearray(order.register)
+        for at, data in changes:
+            self.bytes[at:at + len(data)] = data
+        if (number, length) != outcome[:2]:
+            return f"number {number} and length {length}, by the model {outcome[:2]}"
+        if isinstance(order, Step):
+            wanted = outcome.answer.rstrip(bytes([order.former]))
+            if answer != wanted:
+                return f"answer: {unequal(answer, wanted)}"
+        if self.bytes != outcome.register:
+            return f"register: {unequal(self.bytes, outcome.register)}"
+        return None
+
+
+class Rust:
+    """The lines of the oracle."""
+
+    def __init__(self, path, orders):
+        self.lines, self.original = iter(ran(path, orders).decode().split("\n")[:-1]), Original()
+
+    def difference(self, order, outcome):
+        found = next(self.lines, "the oracle ended")
+        if isinstance(order, Step):
+            return self.original.difference(order.call, outcome.number, outcome.answer[:outcome.length], outcome.register, found)
+        if isinstance(order, Open):
+            self.original = Original()
+            return None if found == ("refused 20" if outcome.number else "opened") else found
+        return None
+
+
+def unequal(found, wanted):
+    """The first place at which bytes differ."""
+    at = next((i for i, (x, y) in enumerate(zip(found, wanted)) if x != y), min(len(found), len(wanted)))
+    return f"from byte {at} (record {at // 1536}, byte {at % 1536}) {found[at:at + 8].hex()}, by the model {wanted[at:at + 8].hex()}"
+
+
+def for_the_rust(orders):
+    """Whether the Rust can follow: it has no register in bytes, and no slice to open."""
+    return all(not isinstance(order, Given) and not (isinstance(order, Open) and model.open(bytearray(order.size), *order.limits) == 21)
+               for order in orders)
+
+
+def outcomes(orders, tools):
+    """The model's outcomes, each found equal by the programs that are there."""
+    beside = [Register(tools.driver, orders)] if tools.driver else []
+    if tools.oracle and for_the_rust(orders):
+        beside.append(Rust(tools.oracle, orders))
+    for place, (order, outcome) in enumerate(zip(orders, modelled(orders))):
+        for other in beside:
+            fault = other.difference(order, outcome)
+            if fault:
+                raise Difference(place, fault)
+        yield outcome
+
+
+# ---- twins
+
+def masked(record):
+    """An alarm's record with text and details taken as zero."""
+    return alarm_record(alarm_of(record) | {"text": b"", "details": None})
+
+
+def masked_register(register):
+    register, chains = bytearray(register), sound_chains(register)
+    for index in chains[0] + chains[1] if chains else []:
+        register[1536 * index + 4:1536 * (index + 1)] = masked(unlinked(register, index))[4:]
+    return register
+
+
+def masked_answer(call, outcome):
+    answer = bytearray(outcome.answer)
+    if outcome.number == 0 and (call[0] in (8, 9) or answer[0] in (1, 2, 6, 7)):
+        for at in range(16, outcome.length, 1536):
+            answer[at:at + 1536] = masked(bytes(answer[at:at + 1536]))
+    return answer
+
+
+def twins_differ(order, one, other):
+    if one[:2] != other[:2]:
+        return f"twins: number and length {one[:2]} and {other[:2]}"
+    if isinstance(order, Step) and masked_answer(order.call, one) != masked_answer(order.call, other):
+        return "twins: answers differ outside text and details"
+    if masked_register(one.register) != masked_register(other.register):
+        return "twins: registers differ outside text and details"
+    return None
+
+
+def checked(case, tools, tally):
+    """Raises Difference where a case shows one; counts what its calls gave."""
+    if case.twin is None:
+        for order, outcome in zip(case.orders, outcomes(case.orders, tools)):
+            count(tally, order, outcome)
+        return
+    pairs = zip(case.orders, outcomes(case.orders, tools), outcomes(case.twin, tools))
+    for place, (order, one, other) in enumerate(pairs):
+        count(tally, order, one)
+        count(tally, order, other)
+        fault = twins_differ(order, one, other)
+        if fault:
+            raise Difference(place, fault)
+
+
+def count(tally, order, outcome):
+    if isinstance(order, Step):
+        tally["calls"] += 1
+    if outcome.number:
+        tally[f"number {outcome.number}"] += 1
+    elif isinstance(order, Step):
+        tally[f"operation {order.call[0]} code {outcome.answer[0]}"] += 1
+
+
+# ---- a failing list, made small
+
+def fault_of(case, tools):
+    try:
+        checked(case, tools, collections.Counter())
+    except Difference as difference:
+        return difference.args
+    return None
+
+
+def without(case, start, end):
+    return Case(*(orders[:start] + orders[end:] for orders in case.lists()))
+
+
+def shrunk(case, tools):
+    """The smallest list that is found by leaving out stretches of a failing one, and its difference."""
+    fault = fault_of(case, tools)
+    case = without(case, fault[0] + 1, len(case.orders))
+    size = len(case.orders) // 2
+    while size > 0:
+        start = 1
+        while start < len(case.orders):
+            smaller = without(case, start, start + size)
+            found = fault_of(smaller, tools)
+            if found:
+                case, fault = without(smaller, found[0] + 1, len(smaller.orders)), found
+            else:
+                start += size
+        size //= 2
+    return case, fault
+
+
+def shown(order):
+    if isinstance(order, Step):
+        return f"step {order.call.hex()} with room for {order.room}, filled with {order.former}  ({line(order.call)})"
+    if isinstance(order, Given):
+        return f"register {order.register.hex()}"
+    return str(order)
+
+
+def report(case, tools):
+    """A failing case, made small, as text."""
+    case, (place, fault) = shrunk(case, tools)
+    rows = [f"after order {place}: {fault}"]
+    for orders in case.lists():
+        rows += ["a list:" if orders is case.orders else "its twin:", *(f"  {i} {shown(order)}" for i, order in enumerate(orders))]
+    return "\n".join(rows)

@@ -1,0 +1,204 @@
+"""Lists of calls from a seed: every operation, few keys and ids, small limits, times at both ends, boundary lengths, damaged
+calls and registers, short answers; and lists that are the same on every run."""
+import functools
+import itertools
+import random
+
+import imports  # noqa: F401  (finds the calls of tests/)
+import cases
+import model
+from calls import call
+from orders import Counters, Given, Open, Step
+from reading import NAMES, OBJECTS, Call, Refused
+from records import CHAINS, WIDTH, alarm_record, event_record, put_link, put_number
+
+AMPLE = 64 * WIDTH
+TIMES = [0, 1, 2, 3, 100, -1, -2, 255, 256, 2**63 - 1, 2**63 - 2, -2**63, 1 - 2**63]
+IDS = [b"a", b"b", b"c", b"d", b"", "ü".encode(), b"i" * 64]
+TYPES = [b"t", b"t", b"t", b"", b"u" * 64]
+CAUSES = [b"lease-lost", b"lease-lost", b"sbi-overload", b"key-unavailable", b"other:a.b", b"other: a.b ", b"other:" + b"x" * 88 + b".y"]
+OBJECTS_SENT = [(6, b"a"), (6, b"b"), (6, b"c"), (1, b"a:b", b"c"), (1, b"a", b"b:c"), (2, b"a", b"b"), (3, b"", b"p" * 64), (4, b"a", None),
+                (4, b"a", b""), (4, b"a", b"s"), (5, b"a"), (7, b"a"), (8, b"a", b"b", 0), (8, b"a", b"b", 65535)]
+SCOPES = [(0, b"a"), (0, b""), (1, b"t"), (1, b"s" * 64), (2,)]
+OPTIONS = [None, None, None, b"x", b"", b"y" * 64]
+REGIONS = [None, None, None, b"r", "Grün".encode(), b"r" * 128]
+TEXTS = [b"", b"x", "café €".encode(), b"t" * 256, b"t" * 255]
+DETAILS = [None, None, b"", b"{}", b"\xff\0", b"d" * 512]
+OPERATIONS = [1] * 30 + [2] * 10 + [3, 4] * 4 + [5, 6] * 9 + [7] * 6 + [8, 9, 10, 11] * 2 + [12] * 5
+
+
+@functools.cache
+def odd_calls():
+    """The calls of tests/calls, good and damaged."""
+    return cases.calls()
+
+
+def values(rng, objects):
+    """Values of all fields."""
+    some = rng.choice
+    return dict(
+        time=some(TIMES), id=some(IDS[:5] if rng.random() < 0.9 else IDS), type=some(TYPES), severity=rng.randrange(6),
+        cause=some(CAUSES) if rng.random() < 0.8 else some(NAMES), object=some(objects), tenant=some(OPTIONS), slice=some(OPTIONS[2:]),
+        region=some(REGIONS), text=some(TEXTS), details=some(DETAILS), authorised=rng.random() < 0.8, principal=some(IDS),
+        reason=some(TEXTS), scope=some(SCOPES), correlation=some(OPTIONS), critical_allowed=rng.random() < 0.4,
+        denial=some(TEXTS[:3]), severity_or_all=some([255, 255, *range(6)]), n=some([0, 1, 1, 2, 3, 255, 256, 65535]))
+
+
+def plain_values(rng, objects):
+    """Values of which only few matter: lists of these meet the same alarms again and again."""
+    found = values(rng, objects)
+    return found | dict(id=rng.choice(IDS[:3]), type=b"t", cause=rng.choice(CAUSES[:4]), tenant=None, slice=None, region=None)
+
+
+def damaged_call(rng, data):
+    """A call with bytes changed, put in or left out, cut, or with bytes left over."""
+    way = rng.randrange(4)
+    at = rng.randrange(len(data))
+    if way == 0:
+        return data[:at]
+    if way == 1:
+        return data + rng.randbytes(rng.randint(1, 3))
+    return data[:at] + (bytes([data[at] ^ 1 << rng.randrange(8)]) if way == 2 else rng.randbytes(rng.randrange(3))) + data[at + 1:]
+
+
+def room(rng):
+    if rng.random() < 0.9:
+        return AMPLE
+    edge = 16 + WIDTH * rng.randrange(5)
+    return rng.choice([0, 15, 16, 34, 1551, 1552, 1553, edge, edge - 1, edge + 1, rng.randrange(4000)])
+
+
+def steps(rng, count):
+    """Steps by chance."""
+    objects = rng.sample(OBJECTS_SENT, rng.choice([2, 3, 5, len(OBJECTS_SENT)]))
+    choose = rng.choice([plain_values, plain_values, values])
+    for _ in range(count):
+        chance = rng.random()
+        data = rng.choice(odd_calls()) if chance < 0.03 else call(rng.choice(OPERATIONS), **choose(rng, objects))
+        yield Step(damaged_call(rng, data) if 0.03 < chance < 0.07 else data, room(rng), rng.randrange(256))
+
+
+def limits(rng):
+    if rng.random() < 0.15:
+        return rng.randint(4, 16), rng.randint(4, 24), rng.randint(2, 8)
+    return rng.randint(1, 4), rng.randint(1, 5), rng.randint(1, 3)
+
+
+def opened(limits_, former=0xEE):
+    return Open(limits_, WIDTH * (1 + sum(limits_)), former)
+
+
+def fresh(rng, count):
+    """A list from opening; at times with counters that soon wrap."""
+    orders = [opened(limits(rng), rng.randrange(256))]
+    if rng.random() < 0.1:
+        orders.append(Counters(2**64 - rng.randint(1, 3), 2**64 - rng.randint(1, 3)))
+    return orders + list(steps(rng, count))
+
+
+def refused_opening(rng):
+    """Limits and slices that opening refuses."""
+    given = limits(rng)
+    bad = [rng.choice([0, 1, 65535, 65536, 2**31, 2**32 - 1]) for _ in range(3)]
+    size = WIDTH * (1 + sum(given)) + rng.choice([-WIDTH, -1, 1, WIDTH])
+    return rng.choice([Open(tuple(bad), 2 * WIDTH, 7), Open(given, size, 7), Open(given, 0, 7)])
+
+
+def forged(rng):
+    """A sound register that no list of calls need reach: equal ids and keys, times and states of all kinds, any order of records."""
+    a, h, e = limits(rng)
+    order = list(range(1, 1 + a + h + e))
+    rng.shuffle(order)
+    data = bytearray(WIDTH * (1 + len(order)))
+    for name, value in zip(("A", "H", "E", "successes", "failures"), (a, h, e, rng.choice([0, 2**64 - 1]), rng.choice([0, 2**64 - 1]))):
+        put_number(data, name, value)
+    lengths = [rng.randint(0, limit) for limit in (a, h, e)]
+    lengths.append(len(order) - sum(lengths))
+    objects = rng.sample(OBJECTS_SENT, 2)
+    for chain, length in zip(CHAINS, lengths):
+        indices = [order.pop() for _ in range(length)]
+        put_number(data, f"{chain}_head", indices[0] if indices else 0)
+        put_number(data, f"{chain}_length", length)
+        for index, after in zip(indices, indices[1:] + [0]):
+            if chain != "free":
+                data[WIDTH * index:WIDTH * (index + 1)] = forged_record(rng, chain, plain_values(rng, objects))
+            put_link(data, index, after)
+    return data
+
+
+def forged_record(rng, chain, fields):
+    fields = fields | {"cause": rng.choice([b"lease-lost", b"key-unavailable", b"other:a.b"])}
+    times = {name: rng.choice(TIMES) for name in ("raised_at", "updated_at", "occurred_at")}
+    if chain == "audit":
+        return event_record(fields | times | {"action": rng.randrange(2), "outcome": rng.randrange(2)})
+    key = model.key_of(fields) if rng.random() < 0.8 else bytes(16)
+    state = rng.randrange(4 if chain == "active" else 6)
+    return alarm_record(fields | times | {"key": key, "state": state, "cleared_at": rng.choice([None, *TIMES])})
+
+
+def damaged(rng, data):
+    """A register with a few bytes or numbers changed; some remain sound."""
+    data = bytearray(data)
+    for _ in range(rng.choice([1, 1, 1, 2])):
+        record = WIDTH * rng.randrange(len(data) // WIDTH)
+        way = rng.randrange(4)
+        if way == 0:
+            data[record:record + 4] = rng.randrange(len(data) // WIDTH + 1).to_bytes(4, "big")
+        elif way == 1:
+            at = 4 * rng.randrange(11)
+            data[at:at + 4] = rng.randrange(6).to_bytes(4, "big")
+        elif way == 2:
+            data[rng.randrange(len(data))] ^= 1 << rng.randrange(8)
+        else:
+            data[record + rng.randrange(64)] = rng.choice([0, 1, 2, 6, 255])
+    return bytes(data[:rng.randrange(len(data))] if rng.random() < 0.03 else data)
+
+
+def from_registers(rng, count):
+    """Calls on forged and on damaged registers."""
+    orders = []
+    for _ in range(count // 8):
+        register = forged(rng)
+        if rng.random() < 0.5:
+            orders += [Given(bytes(register)), *steps(rng, 8)]
+        else:
+            for _ in range(4):
+                orders += [Given(damaged(rng, register)), *steps(rng, 2)]
+    return orders + list(steps(rng, count % 8))
+
+
+def twin(rng, orders):
+    """The list with other texts and details in its good raises."""
+    for order in orders:
+        if isinstance(order, Step) and order.call[:1] == b"\1":
+            try:
+                _, found = Call(order.call).read()
+            except Refused:
+                yield order
+                continue
+            found |= {"text": "".join(rng.choices("aé€", k=rng.randrange(85))).encode(), "details": rng.choice([None, rng.randbytes(rng.randrange(513))])}
+            order = order._replace(call=call(1, **found))
+        yield order
+
+
+# ---- lists that are the same on every run
+
+ALPHABET = [call(1), call(1, severity=5, text=b"x"), call(1, id=b"b", object=(6, b"b"), time=1), call(2, time=-1), call(2, object=(6, b"b")),
+            call(3), call(4, id=b"b"), call(5), call(6), call(6, critical_allowed=1), call(5, authorised=0), call(7, time=1), call(12, n=1)]
+
+
+def short_lists():
+    """Every list of three calls of an alphabet, with the reports after it, on registers of the smallest limits."""
+    reports = [Step(data, AMPLE, 0x5A) for data in (call(8), call(9), call(10), call(11), call(12, n=9))]
+    for limits_ in ((1, 1, 1), (2, 2, 1)):
+        for calls in itertools.product(ALPHABET, repeat=3):
+            yield [opened(limits_), *(Step(data, 1552, 0xA5) for data in calls), *reports]
+
+
+def every_call():
+    """The calls of tests/calls one after the other on a register that holds a few alarms, each kind of object among them."""
+    objects = [(kind, *(b"a", b"b", 1)[:len(parts)]) for kind, parts in OBJECTS.items()]
+    start = [opened((9, 5, 2)), *(Step(call(1, id=b"%d" % i, object=o), AMPLE) for i, o in enumerate(objects))]
+    found = odd_calls()
+    for at in range(0, len(found), 100):
+        yield start + [Step(data, AMPLE, 0xC3) for data in found[at:at + 100]]

@@ -1,0 +1,98 @@
+#!/usr/bin/env python3
+"""The model in the register's place, with the driver's input and output, and with the fault that the variable FAULT names.
+
+`standin.py run` reads a list from the standard input. compare/test_differential.py tries with it whether faults are noticed.
+"""
+import os
+import struct
+import sys
+
+import imports  # noqa: F401  (finds the reading of calls)
+from differential import modelled
+from orders import Counters, Given, Open, Step
+
+FAULT = os.environ.get("FAULT", "")
+
+
+def read(data):
+    """The orders of a list."""
+    at = 0
+
+    def take(form):
+        nonlocal at
+        found = struct.unpack_from(form, data, at)
+        at += struct.calcsize(form)
+        return found
+
+    def part():
+        nonlocal at
+        (size,) = take(">I")
+        at += size
+        return data[at - size:at]
+
+    while at < len(data):
+        (letter,) = take("c")
+        if letter == b"o":
+            *limits, size, former = take(">IIIIB")
+            yield Open(tuple(limits), size, former)
+        elif letter == b"s":
+            room, former = take(">IB")
+            yield Step(part(), room, former)
+        elif letter == b"r":
+            yield Given(part())
+        else:
+            _, successes, failures = take(">IQQ")
+            yield Counters(successes, failures)
+
+
+# ---- faults: each changes what an order gave
+
+def past_the_answer(order, number, length, answer, register):
+    if number == 0 and length < len(answer):
+        answer[length] ^= 1
+    return number, length
+
+
+def written_on_refusal(order, number, length, answer, register):
+    if number == 31:
+        answer[0] ^= 1
+    return number, length
+
+
+def a_register_byte(order, number, length, answer, register):
+    if isinstance(order, Step) and order.call[:1] == b"\2" and number == 0 and answer[0] == 3:
+        register[-1] ^= 1
+    return number, length
+
+
+def another_number(order, number, length, answer, register):
+    return (24 if number == 26 else number), length
+
+
+def another_length(order, number, length, answer, register):
+    return number, length + (isinstance(order, Step) and number == 0 and order.call[0] == 11)
+
+
+FAULTS = {fault.__name__: fault for fault in (past_the_answer, written_on_refusal, a_register_byte, another_number, another_length)}
+
+
+def main():
+    out, orders, before = sys.stdout.buffer, list(read(sys.stdin.buffer.read())), b""
+    for order, (number, length, answer, register) in zip(orders, modelled(orders)):
+        if isinstance(order, Open):
+            before = bytes([order.former]) * order.size
+        elif isinstance(order, Given):
+            before = order.register
+        after = bytearray(register)
+        if FAULT:
+            number, length = FAULTS[FAULT](order, number, length, answer, after)
+        shown = answer.rstrip(bytes([order.former])) if isinstance(order, Step) else b""
+        changes = [(at, after[at:at + 512]) for at in range(0, len(after), 512) if before[at:at + 512] != after[at:at + 512]]
+        out.write(struct.pack(">IQI", number, length, len(shown)) + shown + struct.pack(">I", len(changes)))
+        for at, part in changes:
+            out.write(struct.pack(">II", at, len(part)) + part)
+        before = bytes(after)
+
+
+if __name__ == "__main__":
+    main()

@@ -1,0 +1,93 @@
+#!/usr/bin/env python3
+"""Whether the comparison notices: the model in the register's place, with and without faults, and twins that are none."""
+import collections
+import os
+import pathlib
+import random
+import shutil
+import sys
+
+import imports  # noqa: F401  (finds the list of checks)
+import generate
+import standin
+from calls import call
+from checklist import run
+from differential import Case, Tools, checked, fault_of, masked_register, modelled, report, shrunk
+from orders import Step
+from records import LAYOUT, unlinked
+
+STANDIN = Tools(driver=str(pathlib.Path(standin.__file__).resolve()))
+
+
+def some_list():
+    rng = random.Random(8)
+    tail = [Step(data, 2000, 1) for data in (call(2), call(1), call(1, id=b"b", severity=4), call(2), call(3, id=b"i" * 65), call(11))]
+    return [generate.opened((2, 3, 1)), *generate.steps(rng, 60), *tail, Step(call(1), 2000, 1), Step(call(1, type=b"z"), 2000, 1)]
+
+
+def faultless(_root):
+    os.environ["FAULT"] = ""
+    tally = collections.Counter()
+    checked(Case(some_list()), STANDIN, tally)
+    if tally["calls"] != 68:
+        yield f"{tally['calls']} calls"
+
+
+def noticed(fault):
+    def check(_root):
+        os.environ["FAULT"] = fault
+        case, found = Case(some_list()), None
+        if not fault_of(case, STANDIN):
+            yield "is not noticed"
+            return
+        case, found = shrunk(case, STANDIN)
+        if len(case.orders) > 4:
+            yield f"the list is not made small: {len(case.orders)} orders"
+        if found[0] != len(case.orders) - 1 or not report(case, STANDIN).startswith(f"after order {found[0]}: "):
+            yield f"the report is about order {found[0]} of {len(case.orders)}"
+    return check
+
+
+def ended(_root):
+    """A driver that ends early is a fault."""
+    if not fault_of(Case(some_list()), Tools(driver=shutil.which("false"))):
+        yield "a driver that writes nothing passes"
+    if not fault_of(Case(some_list()), Tools(oracle=shutil.which("false"))):
+        yield "an oracle that writes nothing passes"
+
+
+def twins(_root):
+    orders = some_list()
+    good = list(generate.twin(random.Random(1), orders))
+    if good == orders:
+        yield "the twin is the list itself"
+    if fault_of(Case(orders, good), Tools()):
+        yield f"twins differ: {fault_of(Case(orders, good), Tools())}"
+    for name, values in {"severity": dict(severity=1), "time": dict(time=9), "tenant": dict(tenant=b"x")}.items():
+        first, *rest = orders
+        one, other = (Case([first, Step(data, 2000), *rest]) for data in (call(1), call(1, **values)))
+        if not fault_of(Case(one.orders, other.orders), Tools()):
+            yield f"lists that differ in {name} pass for twins"
+
+
+def mask(_root):
+    """Masking zeroes the bytes of text and details, and no other."""
+    orders = [generate.opened((1, 1, 1)), Step(call(1, text=b"t" * 256, details=b"d" * 512), 2000)]
+    register = bytes([*modelled(orders)][-1].register)
+    plain = unlinked(masked_register(register), 1)
+    fields = LAYOUT["alarm"]
+    start, end = fields["text"]["len"][0], fields["details"]["at"] + 512
+    if plain != unlinked(register, 1)[:start] + bytes(end - start) + unlinked(register, 1)[end:]:
+        yield "other bytes are masked"
+
+
+CHECKS = {
+    "the model in the register's place": faultless,
+    **{f"a fault is noticed: {name.replace('_', ' ')}": noticed(name) for name in standin.FAULTS},
+    "programs that end": ended,
+    "twins": twins,
+    "the mask": mask,
+}
+
+if __name__ == "__main__":
+    sys.exit(run("differential", CHECKS))
