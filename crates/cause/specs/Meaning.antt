@@ -2,7 +2,7 @@
 use Prim.Native.Nat.{ℕ, _+_, _≤_, _<_}
 use mathlib.Core.Path.{_≡_}
 use mathlib.Core.Bool.{false}
-use mathlib.Core.List.{[], _++_}
+use mathlib.Core.List.{List, [], _∷_, _++_}
 use mathlib.Core.Option.{Option, none, some}
 use lib.ListN.{length, take, drop, getD}
 use Rattle.octets.specs.Bytes.{Bytes}
@@ -16,6 +16,14 @@ use Rattle.cause.specs.declared.Cause.the-variants.{Name, Other, No}
 abbrev pub named : Bytes → Named → Type 0
 named s (At k) = (k < 21) × (getD names k [] ≡ s)
 named s Nothing = oneOf names s ≡ false
+
+abbrev pub total : List Bytes → ℕ
+total [] = 0
+total (n ∷ ns) = length n + total ns
+
+-- where the name at k starts in the text of all names
+abbrev pub startOf : ℕ → ℕ
+startOf k = total (take k names)
 
 -- the stored form that the answer on s stands for
 unfoldable pub causeValue : Bytes → Cause → Option Bytes

@@ -1,11 +1,11 @@
 // The 21 names of causes, by their place.
 ghost use mathlib.Core.Path.{_≡_};
 ghost use mathlib.Core.List.{[]};
-ghost use Prim.Native.Nat.{_+_, _-_, _≤_, _<_};
+ghost use Prim.Native.Nat.{_+_, _≤_, _<_};
 ghost use lib.ListN.{getD, length, take, drop};
 ghost use Rattle.octets.specs.Bytes.{same, splice};
 ghost use Rattle.definition.specs.Cause.{names};
-ghost use Rattle.cause.specs.Meaning.{named};
+ghost use Rattle.cause.specs.Meaning.{named, startOf};
 
 // Which of the names a string is.
 pub enum Named {
@@ -13,11 +13,12 @@ pub enum Named {
     Nothing,
 }
 
-// The names, one after the other, and where each starts.
+// The names, one after the other.
 const NAMES: [u8; 403] =
     *b"config-apply-failedconfig-drift-detectedcertificate-expiringcertificate-expiredidentity-unavailableauthorization-policy-invalidsession-store-unavailablelease-lostbackend-timeoutnrf-unreachablesbi-overloadpeer-unreachablepacket-drop-thresholddataplane-preflight-failedstorage-corruptionaudit-chain-invalidkey-unavailableli-delivery-failedcharging-export-failedprivacy-policy-violationsecurity-break-glass";
 
-const STARTS: [usize; 22] = [
+// Where each starts, and its length. An array is copied at each use: these are of the smallest type.
+const STARTS: [u16; 21] = [
     0,
     19,
     40,
@@ -39,32 +40,73 @@ const STARTS: [usize; 22] = [
     337,
     359,
     383,
-    403,
 ];
+
+const LENGTHS: [u8; 21] = [
+    19,
+    21,
+    20,
+    19,
+    20,
+    28,
+    25,
+    10,
+    15,
+    15,
+    12,
+    16,
+    21,
+    26,
+    18,
+    19,
+    15,
+    18,
+    22,
+    24,
+    20,
+];
+
+// Where the name at k starts.
+fn start_of(k: usize) -> usize
+    requires { ⌜ k < 21 ⌝ }
+    ensures { λ r. ⌜ r ≡ startOf k ⌝ }
+{
+    STARTS[k] as usize
+}
+
+// The length of the name at k.
+fn length_of(k: usize) -> usize
+    requires { ⌜ k < 21 ⌝ }
+    ensures { λ r. ⌜ r ≡ length (getD names k []) ⌝ }
+{
+    LENGTHS[k] as usize
+}
 
 // Whether s is the name at k: the lengths first, since most differ there.
 fn is_name(s: &[u8], k: usize) -> bool
     requires { ⌜ k < 21 ⌝ }
     ensures { λ r. ⌜ r ≡ same (getD names k []) (now (s .entry)) ⌝ }
 {
-    if s.len() != STARTS[k + 1] - STARTS[k] {
+    if s.len() != length_of(k) {
         return false;
     }
     same_name(s, k)
 }
 
+// The same, for a string of that length.
 fn same_name(s: &[u8], k: usize) -> bool
     requires { ⌜ k < 21 ⌝ }
     ensures { λ r. ⌜ r ≡ same (getD names k []) (now (s .entry)) ⌝ }
 {
-    part_is(&NAMES, STARTS[k], STARTS[k + 1], s)
+    part_is(&NAMES, start_of(k), length_of(k), s)
 }
 
-// Whether the bytes of all from a to e are those of s.
-fn part_is(all: &[u8], a: usize, e: usize, s: &[u8]) -> bool
-    requires { ⌜ (a ≤ e) × (e ≤ length (now all)) ⌝ }
-    ensures { λ r. ⌜ r ≡ same (take (e - a) (drop a (now (all .entry)))) (now (s .entry)) ⌝ }
+// Whether the n bytes of all from a on are those of s.
+fn part_is(all: &[u8], a: usize, n: usize, s: &[u8]) -> bool
+    requires { ⌜ a + n ≤ length (now all) ⌝ }
+    ensures { λ r. ⌜ r ≡ same (take n (drop a (now (all .entry)))) (now (s .entry)) ⌝ }
 {
+    let e = a + n;
     octets::equal(&all[a..e], s)
 }
 
@@ -88,16 +130,16 @@ pub fn put_name(buf: &mut [u8], at: usize, k: usize) -> usize
     ensures { λ r.
         ⌜ (r ≡ at + length (getD names k [])) × (now (buf .exit) ≡ splice (now (buf .entry)) at (getD names k [])) ⌝ }
 {
-    put_part(buf, at, &NAMES, STARTS[k], STARTS[k + 1])
+    put_part(buf, at, &NAMES, start_of(k), length_of(k))
 }
 
-// Writes the bytes of all from a to e.
-fn put_part(buf: &mut [u8], at: usize, all: &[u8], a: usize, e: usize) -> usize
-    requires { ⌜ (a ≤ e) × (e ≤ length (now all)) × (at + (e - a) ≤ length (now buf)) ⌝ }
+// Writes n bytes of all from a on into buf from at on, and answers where they end.
+fn put_part(buf: &mut [u8], at: usize, all: &[u8], a: usize, n: usize) -> usize
+    requires { ⌜ (a + n ≤ length (now all)) × (at + n ≤ length (now buf)) ⌝ }
     ensures { λ r.
-        ⌜ (r ≡ at + (e - a))
-        × (now (buf .exit) ≡ splice (now (buf .entry)) at (take (e - a) (drop a (now (all .entry))))) ⌝ }
+        ⌜ (r ≡ at + n) × (now (buf .exit) ≡ splice (now (buf .entry)) at (take n (drop a (now (all .entry))))) ⌝ }
 {
+    let e = a + n;
     octets::put_bytes(buf, at, &all[a..e]);
-    at + (e - a)
+    at + n
 }

@@ -1,25 +1,14 @@
 -- A string of another length is no name.
+use native.Mathlib.Omega.{arith}
+use Rattle.cause.proofs.Places.{other-length}
 use borrow.Author.Needs.{needs}
-use Rattle.cause.proofs.Places.{starts-rise, other-length}
 use Rattle.cause.proofs.names.is_name.Statement.{statement}
 use Rattle.cause.proofs.names.is_name.Tie as tie
 
-sub-if1 : tie.Need-sub-if1
-sub-if1 c = starts-rise (c .before .args .k) (search needs)
-
 returns : tie.Need-returns
-returns c = other-length (c .before .before .args .k) (search needs) (c .before .before .args .s .now) (c .if1 .taken)
+returns c =
+    let a = c .before .before .before .args in
+    other-length (a .k) (omega arith) _ (a .s .now) (c .before .length-of .ensures) (c .if1 .taken)
 
 pub is-name-spec : {M : Type 1} → statement M
-is-name-spec =
-    tie.close
-    (tie.spec
-    (λ c. search needs)
-    (λ c. search needs)
-    (λ c. search needs)
-    (λ c. search needs)
-    (λ c. search needs)
-    sub-if1
-    returns
-    (λ c κs. search needs)
-    (λ c. search needs))
+is-name-spec = tie.close (tie.spec (λ c κs. search needs) returns (λ c κs. search needs) (λ c. search needs))
