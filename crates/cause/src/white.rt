@@ -1,7 +1,7 @@
 // White space in UTF-8, and a string without it at both ends.
 ghost use mathlib.Core.Path.{_≡_};
 ghost use mathlib.Core.List.{[], _∷_};
-ghost use Prim.Native.Nat.{_+_, _≤_, _<_};
+ghost use Prim.Native.Nat.{ℕ, _+_, _≤_, _<_};
 ghost use lib.ListN.{getD, length, take, drop};
 ghost use Rattle.definition.specs.White.{space, startFrom, endFrom};
 
@@ -89,13 +89,11 @@ fn space_e3(b: u8, c: u8) -> usize
     0
 }
 
-// White space at the front of three bytes.
+// White space of two or three bytes.
 fn space3(a: u8, b: u8, c: u8) -> usize
+    requires { ⌜ 0xC2 ≤ a ⌝ }
     ensures { λ r. ⌜ r ≡ space (a ∷ b ∷ c ∷ []) ⌝ }
 {
-    if a < 0xC2 {
-        return space1(a, b, c);
-    }
     if a < 0xE1 {
         if a == 0xC2 {
             return space_c2(b, c);
@@ -114,10 +112,10 @@ fn space3(a: u8, b: u8, c: u8) -> usize
     0
 }
 
-// White space of one byte.
-fn space1(a: u8, b: u8, c: u8) -> usize
+// White space of one byte, whatever follows.
+fn space1(a: u8) -> usize
     requires { ⌜ a < 0xC2 ⌝ }
-    ensures { λ r. ⌜ r ≡ space (a ∷ b ∷ c ∷ []) ⌝ }
+    ensures { λ r. ⌜ ((b c : ℕ) → r ≡ space (a ∷ b ∷ c ∷ [])) ⌝ }
 {
     if a < 0x09 {
         return 0;
@@ -138,7 +136,11 @@ fn space1(a: u8, b: u8, c: u8) -> usize
 fn space_len(s: &[u8]) -> usize
     ensures { λ r. ⌜ r ≡ space (now (s .entry)) ⌝ }
 {
-    space3(byte_at(s, 0), byte_at(s, 1), byte_at(s, 2))
+    let a = byte_at(s, 0);
+    if a < 0xC2 {
+        return space1(a);
+    }
+    space3(a, byte_at(s, 1), byte_at(s, 2))
 }
 
 // How many bytes of white space stand in s at i.
