@@ -1,8 +1,10 @@
 /* What the check of a register's soundness costs. Every call starts with it; an empty call is refused (23) right after it, so the time of
    alarm_step with an empty call is the check's own.
 
-   Prints, for registers all free and registers full of typical alarms, nanoseconds per record (the least and the median of many runs) and
-   bytes per second (of the least), and beside them those of a memcpy of the same bytes.
+   Three registers of each size: all records free; full of typical alarms whose strings have the same lengths in all records (alike); and
+   full of alarms whose strings vary by a quarter around these lengths (varied), which a processor foresees less well. Printed are
+   nanoseconds per record (the least and the median of many runs) and bytes per second (of the least), and beside them those of a memcpy
+   of the same bytes.
 
    Alarms are written into the register's bytes here, by the offsets of docs/layout.json: each raise checks the whole register, so that
    filling it by calls would take time with the square of its records.
@@ -37,6 +39,9 @@ typedef struct {
     uint32_t records, active, history, audit;
 } Register;
 
+/* Whether the strings of all records have the same lengths. */
+typedef enum { ALIKE, VARIED } Lengths;
+
 typedef struct {
     double least, median;
 } Times;
@@ -57,55 +62,76 @@ static void put(uint8_t *at, uint64_t value, size_t width) {
         at[--i] = (uint8_t)value;
 }
 
-static void put_string(uint8_t *slot, const char *text) {
-    size_t n = strlen(text);
-    put(slot, n, 2);
-    memcpy(slot + 2, text, n);
-}
-
-static void put_option(uint8_t *slot, const char *text) {
-    slot[0] = 1;
-    put_string(slot + 1, text);
-}
-
 /* ---- registers */
 
-static Register opened(uint32_t records) {
+static void open_register(Register r) {
+    uint64_t length;
+    if (alarm_open(r.bytes, r.size, r.active, r.history, r.audit, &length) != 0)
+        fail("a register was not opened");
+}
+
+static Register made(uint32_t records) {
     Register r = {.size = (size_t)WIDTH * (1 + (size_t)records), .records = records};
     r.audit = 1;
     r.history = records / 2;
     r.active = records - r.history - r.audit;
     r.bytes = malloc(r.size);
-    uint64_t length;
     if (r.bytes == NULL)
         fail("no memory");
-    if (alarm_open(r.bytes, r.size, r.active, r.history, r.audit, &length) != 0)
-        fail("a register was not opened");
+    open_register(r);
     return r;
 }
 
-/* A typical alarm, active and major: an id of 20 bytes, a cause by name, an object of two strings, a tenant, a text of 60 bytes and details
-   of 80. */
-static void put_alarm(uint8_t *record, uint32_t i) {
-    char id[32], instance[32], text[64], details[96];
-    snprintf(id, sizeof id, "station-alarm-%06u", i);
-    snprintf(instance, sizeof instance, "winch-drive-%06u", i);
-    snprintf(text, sizeof text, "%-60s", "Peer has not answered three polls in a row; the car holds.");
-    snprintf(details, sizeof details, "%-80s", "{\"polls\":3,\"timeout_ms\":250,\"line\":\"upper\",\"car\":2,\"speed\":0.0}");
-    for (int k = 0; k < 16; k++)
-        record[KEY + k] = (uint8_t)(i * 2654435761u >> (k & 24));
+/* A number below n: each run draws the same ones. */
+static uint32_t drawn(uint32_t n) {
+    static uint32_t x = 1;
+    x ^= x << 13;
+    x ^= x >> 17;
+    x ^= x << 5;
+    return x % n;
+}
+
+static uint32_t length_of(uint32_t typical, Lengths lengths) {
+    return lengths == ALIKE ? typical : typical - typical / 4 + drawn(typical / 2 + 1);
+}
+
+/* A string of n bytes that begins with the record's number. */
+static void put_string(uint8_t *slot, uint32_t n, uint32_t i) {
+    char text[128];
+    snprintf(text, sizeof text, "%06u %s", i,
+             "the drive of the upper station has not answered three polls in a row: the car holds, doors stay shut");
+    put(slot, n, 2);
+    memcpy(slot + 2, text, n);
+}
+
+static void put_option(uint8_t *slot, uint32_t n, uint32_t i) {
+    slot[0] = 1;
+    put_string(slot + 1, n, i);
+}
+
+static void put_cause(uint8_t *slot, Lengths lengths) {
+    static const char *const names[] = {"peer-unreachable", "lease-lost", "storage-corruption", "certificate-expiring",
+                                        "security-break-glass"};
+    const char *name = names[lengths == ALIKE ? 0 : drawn(sizeof names / sizeof *names)];
+    put(slot, strlen(name), 2);
+    memcpy(slot + 2, name, strlen(name));
+}
+
+/* An alarm: id, type, a cause by name, an object of two strings, tenant, text and details. */
+static void put_alarm(uint8_t *record, uint32_t i, Lengths lengths) {
+    put(record + KEY, i, 16);
     record[SEVERITY] = 1;
     put(record + RAISED_AT, 1800000000000000000u + i, 8);
     put(record + UPDATED_AT, 1800000000000000000u + i, 8);
-    put_string(record + ID, id);
-    put_string(record + TYPE, "communications");
-    put_string(record + CAUSE, "peer-unreachable");
+    put_string(record + ID, length_of(20, lengths), i);
+    put_string(record + TYPE, length_of(14, lengths), i);
+    put_cause(record + CAUSE, lengths);
     record[OBJECT_KIND] = 1;
-    put_string(record + OBJECT_FIRST, "drive");
-    put_string(record + OBJECT_SECOND, instance);
-    put_option(record + TENANT, "upper-station");
-    put_string(record + TEXT, text);
-    put_option(record + DETAILS, details);
+    put_string(record + OBJECT_FIRST, length_of(8, lengths), i);
+    put_string(record + OBJECT_SECOND, length_of(18, lengths), i);
+    put_option(record + TENANT, length_of(13, lengths), i);
+    put_string(record + TEXT, length_of(60, lengths), i);
+    put_option(record + DETAILS, length_of(80, lengths), i);
 }
 
 static void put_head(Register r, size_t head, uint32_t first, uint32_t count) {
@@ -114,19 +140,20 @@ static void put_head(Register r, size_t head, uint32_t first, uint32_t count) {
 }
 
 /* A chain of alarms in `count` records from `first` on. */
-static void put_chain(Register r, size_t head, uint32_t first, uint32_t count) {
+static void put_chain(Register r, size_t head, uint32_t first, uint32_t count, Lengths lengths) {
     put_head(r, head, first, count);
     for (uint32_t i = first; i < first + count; i++) {
         uint8_t *record = r.bytes + (size_t)WIDTH * i;
         put(record + NEXT, i + 1 < first + count ? i + 1 : 0, 4);
-        put_alarm(record, i);
+        put_alarm(record, i, lengths);
     }
 }
 
 /* Active chain and history are full; the record for an audit event stays free. */
-static void fill(Register r) {
-    put_chain(r, ACTIVE_HEAD, 1, r.active);
-    put_chain(r, HISTORY_HEAD, 1 + r.active, r.history);
+static void fill(Register r, Lengths lengths) {
+    open_register(r);
+    put_chain(r, ACTIVE_HEAD, 1, r.active, lengths);
+    put_chain(r, HISTORY_HEAD, 1 + r.active, r.history, lengths);
     put_head(r, FREE_HEAD, r.records, r.audit);
 }
 
@@ -202,12 +229,14 @@ static void measure(Register r, const char *kind) {
 int main(void) {
     const uint32_t sizes[] = {LEAST_RECORDS, 10000, 100000};
     printf("                  check, ns per record       memcpy, ns per record\n");
-    printf(" records  all        least   median    GB/s     least   median    GB/s\n");
+    printf(" records             least   median    GB/s     least   median    GB/s\n");
     for (size_t k = 0; k < sizeof sizes / sizeof *sizes; k++) {
-        Register r = opened(sizes[k]);
+        Register r = made(sizes[k]);
         measure(r, "free");
-        fill(r);
-        measure(r, "alarms");
+        fill(r, ALIKE);
+        measure(r, "alike");
+        fill(r, VARIED);
+        measure(r, "varied");
         free(r.bytes);
     }
     return 0;
