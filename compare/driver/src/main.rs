@@ -2,7 +2,7 @@
 //! points, and writes for each order but marks: the number (four bytes) and the length (eight); then the answer slice up
 //! to its last byte that is not the one that filled it, behind its length; then how many stretches of the register
 //! changed, each with its place, its length and its bytes. Numbers are big-endian, of four bytes save where said.
-//! driver time FILE: measures the marked steps of a list.
+//! driver time FILE: prints the nanoseconds of the marked steps of a list.
 use lists::{measure, orders, Order, Station};
 use std::io::{Read, Write};
 
@@ -103,7 +103,7 @@ fn run(file: &[u8]) {
     }
 }
 
-/// A register and an answer of full length: neither is cleared between calls.
+/// A register, and an answer that has room for all of it: neither is cleared between calls.
 struct Cabinet {
     register: Vec<u8>,
     answer: Vec<u8>,
@@ -114,6 +114,10 @@ impl Station for Cabinet {
         self.register = vec![0; size];
         self.answer = vec![0; size + 16];
         open(&mut self.register, limits).0
+    }
+    fn give(&mut self, register: &[u8]) {
+        self.register = register.to_vec();
+        self.answer = vec![0; register.len() + 16];
     }
     fn step(&mut self, call: &[u8], room: usize) -> u32 {
         step(&mut self.register, call, &mut self.answer[..room]).0

@@ -68,10 +68,11 @@ pub fn orders(file: &[u8]) -> Option<Vec<Order<'_>>> {
 /// What is measured: a register, or the Rust in its place. Both give the refusal's number, 0 for none.
 pub trait Station {
     fn open(&mut self, limits: [u32; 3], size: usize) -> u32;
+    fn give(&mut self, register: &[u8]);
     fn step(&mut self, call: &[u8], room: usize) -> u32;
 }
 
-/// Steps the orders and prints, for each name, how many steps were measured and their least and median nanoseconds.
+/// Steps the orders and prints, for each name, the nanoseconds of the steps that were measured under it.
 pub fn measure(orders: &[Order], station: &mut dyn Station) {
     let mut groups: Vec<(&str, Vec<u128>)> = Vec::new();
     for order in orders {
@@ -87,11 +88,12 @@ pub fn measure(orders: &[Order], station: &mut dyn Station) {
                 }
             }
             Order::Mark(name) => groups.push((name, Vec::new())),
-            Order::Register(_) | Order::Counters { .. } => panic!("a list that is measured opens its register"),
+            Order::Register(bytes) => station.give(bytes),
+            Order::Counters { .. } => panic!("a list that is measured sets no counters"),
         }
     }
-    for (name, mut times) in groups.into_iter().filter(|(name, times)| !name.is_empty() && !times.is_empty()) {
-        times.sort_unstable();
-        println!("{name}\t{}\t{}\t{}", times.len(), times[0], times[times.len() / 2]);
+    for (name, times) in groups.iter().filter(|(name, _)| !name.is_empty()) {
+        let times: Vec<String> = times.iter().map(u128::to_string).collect();
+        println!("{name}\t{}", times.join(" "));
     }
 }

@@ -1,5 +1,5 @@
 //! oracle run: reads a list of calls from the standard input and writes a line for each order but marks.
-//! oracle time FILE: measures the marked steps of a list.
+//! oracle time FILE: prints the nanoseconds of the marked steps of a list.
 //! oracle whitespace: every character that Rust holds for white space.
 mod call;
 mod json;
@@ -55,6 +55,9 @@ impl Station for Original {
             machine.ids_are_fresh = true;
         }
         if self.0.is_some() { 0 } else { 20 }
+    }
+    fn give(&mut self, _register: &[u8]) {
+        panic!("the Rust keeps no register in bytes");
     }
     fn step(&mut self, call: &[u8], room: usize) -> u32 {
         let machine = self.0.as_mut().expect("no register is open");
