@@ -1,0 +1,34 @@
+-- Fields that are changed one after the other come to the step's change.
+use Prim.Native.Nat.{ℕ}
+use mathlib.Core.Path.{_≡_, sym}
+use Rattle.octets.specs.Bytes.{Bytes}
+use Rattle.definition.specs.Alarm.{late}
+use Rattle.definition.specs.Record.{lastActive, alarmBytes, readAlarm}
+use Rattle.definition.specs.Steps.{Action, actionState, updatedState, actedOn, clearedBy, expiredBy}
+use Rattle.record.specs.Change.{withSeverity, withState, withUpdated, withCleared, withText, withDetails}
+use Rattle.history.specs.Meaning.{IsAlarm}
+use Rattle.history.specs.HeldLaws.{payload-bytes}
+use Rattle.changes.specs.Meaning.{Turns, NewsValue, updatedWith}
+
+module _ (p : Bytes) (i : IsAlarm lastActive p) where
+  holds : p ≡ alarmBytes (readAlarm p)
+  holds = sym (payload-bytes lastActive p (i .legal))
+
+  pub acted : (x : Action) (time s t : ℕ) (q r : Bytes) → s ≡ actionState x → t ≡ late time (readAlarm p .raisedAt) →
+      Turns (withState s) p q → Turns (withUpdated t) q r → r ≡ alarmBytes (actedOn x time (readAlarm p))
+  unfolding actedOn
+  acted x time s t q r hs ht f g = rw (sym hs, sym ht) (g _ (f _ holds))
+
+  pub cleared : (time t : ℕ) (q r s u : Bytes) → t ≡ late time (readAlarm p .raisedAt) →
+      Turns (withSeverity 0) p q → Turns (withState 4) q r → Turns (withUpdated t) r s → Turns (withCleared t) s u → u ≡ alarmBytes (clearedBy time (readAlarm p))
+  unfolding clearedBy
+  cleared time t q r s u ht f g h k = rw (sym ht) (k _ (h _ (g _ (f _ holds))))
+
+  pub expired : (cutoff : ℕ) (q r s : Bytes) → Turns (withState 5) p q → Turns (withUpdated cutoff) q r → Turns (withCleared cutoff) r s → s ≡ alarmBytes (expiredBy cutoff (readAlarm p))
+  unfolding expiredBy
+  expired cutoff q r s f g h = h _ (g _ (f _ holds))
+
+  pub updated : (n : NewsValue) (x t : ℕ) (q r s u v : Bytes) → x ≡ updatedState (readAlarm p .state) → t ≡ late (n .time) (readAlarm p .raisedAt) →
+      Turns (withSeverity (n .severity)) p q → Turns (withText (n .text)) q r → Turns (withDetails (n .details)) r s → Turns (withState x) s u → Turns (withUpdated t) u v →
+      v ≡ alarmBytes (updatedWith n (readAlarm p))
+  updated n x t q r s u v hx ht f g h k l = rw (sym hx, sym ht) (l _ (k _ (h _ (g _ (f _ holds)))))

@@ -1,0 +1,62 @@
+-- What the code's actions and a raise's news mean.
+use Prim.Native.Nat.{ℕ}
+use mathlib.Core.Path.{_≡_, refl}
+use mathlib.Core.Option.{Option}
+use Rattle.octets.specs.Bytes.{Bytes}
+use Rattle.definition.specs.Limits.{textLimit, detailsLimit}
+use Rattle.definition.specs.Value.{RaiseValue}
+use Rattle.definition.specs.Alarm.{Alarm, late}
+use Rattle.definition.specs.Record.{alarmBytes}
+use Rattle.definition.specs.Steps as S
+use Rattle.definition.specs.Steps.{acknowledging, suppressing, updatedState, updatedBy}
+use Rattle.model.specs.Meaning.{part, optPart, within, optWithin}
+use Rattle.changes.specs.declared.Action.{Action}
+use Rattle.changes.specs.declared.Action.the-variants.{Acknowledge, Suppress}
+use Rattle.changes.specs.declared.News.{News}
+
+abbrev pub actionOf : Action → S.Action
+actionOf Acknowledge = acknowledging
+actionOf Suppress = suppressing
+
+-- a payload that holds an alarm holds what f makes of it afterwards
+abbrev pub Turns : (Alarm → Alarm) → Bytes → Bytes → Type 0
+Turns f b c = (a : Alarm) → b ≡ alarmBytes a → c ≡ alarmBytes (f a)
+
+-- ---- "severity, text, details replaced; updated_at late"
+
+pub record NewsValue : Type 0 where
+  pub time : ℕ
+  pub severity : ℕ
+  pub text : Bytes
+  pub details : Option Bytes
+
+abbrev pub newsOf : Bytes → News → NewsValue
+newsOf call n = record { time = n .time; severity = n .severity; text = part call (n .text); details = optPart call (n .details) }
+
+pub record NewsWithin (call : Bytes) (n : News) : Type 0 where
+  pub text : within call textLimit (n .text)
+  pub details : optWithin call detailsLimit (n .details)
+
+abbrev pub updatedWith : NewsValue → Alarm → Alarm
+updatedWith n a =
+    record {
+      id = a .id;
+      type = a .type;
+      severity = n .severity;
+      about = a .about;
+      text = n .text;
+      details = n .details;
+      state = updatedState (a .state);
+      raisedAt = a .raisedAt;
+      updatedAt = late (n .time) (a .raisedAt);
+      clearedAt = a .clearedAt;
+      key = a .key;
+    }
+
+abbrev pub newsIn : RaiseValue → NewsValue
+newsIn c = record { time = c .head .time; severity = c .head .severity; text = c .text; details = c .details }
+
+-- a raise brings its news
+pub updated-with : (c : RaiseValue) (a : Alarm) → updatedWith (newsIn c) a ≡ updatedBy c a
+unfolding updatedBy
+updated-with c a = refl

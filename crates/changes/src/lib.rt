@@ -1,0 +1,122 @@
+// An alarm changed as a step changes it, in its payload.
+ghost use mathlib.Core.Path.{_≡_};
+ghost use mathlib.Core.Option.{some};
+ghost use lib.ListN.{length};
+ghost use Rattle.definition.specs.Limits.{textLimit, detailsLimit};
+ghost use Rattle.definition.specs.Book.{payloadWidth};
+ghost use Rattle.definition.specs.Record.{lastActive, alarmBytes, readAlarm};
+ghost use Rattle.definition.specs.Steps.{updatedState, clearedBy, actionState, actedOn, expiredBy};
+ghost use Rattle.record.specs.Change.{withText, withDetails};
+ghost use Rattle.model.specs.Meaning.{part, optPart, within, optWithin};
+ghost use Rattle.history.specs.Meaning.{IsAlarm};
+ghost use Rattle.changes.specs.Meaning.{actionOf, Turns, NewsWithin, newsOf, updatedWith};
+use model::OptSpan;
+use model::Span;
+
+// What may be done to an active alarm by operations 3 to 6.
+pub enum Action {
+    Acknowledge,
+    Suppress,
+}
+
+// ---- "Plain 3, 4": the state of the action, and the later time
+
+fn state_of(action: Action) -> u8
+    ensures { λ r. ⌜ r ≡ actionState (actionOf action) ⌝ }
+{
+    match action {
+        Action::Acknowledge => 2,
+        Action::Suppress => 3,
+    }
+}
+
+pub fn acted_on(p: &mut [u8], action: Action, time: u64)
+    requires { ⌜ IsAlarm lastActive (now p) ⌝ }
+    ensures { λ _. ⌜ now (p .exit) ≡ alarmBytes (actedOn (actionOf action) time (readAlarm (now (p .entry)))) ⌝ }
+{
+    let t = time::late(time, record::raised_at(p));
+    record::set_state(p, state_of(action));
+    record::set_updated(p, t);
+}
+
+// ---- "Clear": state 4, severity 0, cleared_at and updated_at late
+
+pub fn cleared_by(p: &mut [u8], time: u64)
+    requires { ⌜ IsAlarm lastActive (now p) ⌝ }
+    ensures { λ _. ⌜ now (p .exit) ≡ alarmBytes (clearedBy time (readAlarm (now (p .entry)))) ⌝ }
+{
+    let t = time::late(time, record::raised_at(p));
+    record::set_severity(p, 0);
+    record::set_state(p, 4);
+    record::set_updated(p, t);
+    record::set_cleared(p, t);
+}
+
+// ---- "Expire": state 5, updated_at and cleared_at the cutoff
+
+pub fn expired_by(p: &mut [u8], cutoff: u64)
+    requires { ⌜ IsAlarm lastActive (now p) ⌝ }
+    ensures { λ _. ⌜ now (p .exit) ≡ alarmBytes (expiredBy cutoff (readAlarm (now (p .entry)))) ⌝ }
+{
+    record::set_state(p, 5);
+    record::set_updated(p, cutoff);
+    record::set_cleared(p, cutoff);
+}
+
+// ---- "Raise, key active": severity, text, details replaced, updated_at late, 0 and 1 become 1, 2 and 3 stay
+
+fn updated_state(state: u8) -> u8
+    ensures { λ r. ⌜ r ≡ updatedState state ⌝ }
+{
+    if state <= 1 { 1 } else { state }
+}
+
+fn put_details(p: &mut [u8], call: &[u8], s: Span)
+    requires { ⌜ (length (now p) ≡ payloadWidth) × within (now call) detailsLimit s ⌝ }
+    ensures { λ _. ⌜ Turns (withDetails (some (part (now (call .entry)) s))) (now (p .entry)) (now (p .exit)) ⌝ }
+{
+    let a = s.at;
+    let e = a + s.len;
+    record::set_details(p, &call[a..e]);
+}
+
+fn set_details(p: &mut [u8], call: &[u8], details: OptSpan)
+    requires { ⌜ (length (now p) ≡ payloadWidth) × optWithin (now call) detailsLimit details ⌝ }
+    ensures { λ _. ⌜ Turns (withDetails (optPart (now (call .entry)) details)) (now (p .entry)) (now (p .exit)) ⌝ }
+{
+    match details {
+        OptSpan::Absent => record::no_details(p),
+        OptSpan::Present(s) => put_details(p, call, s),
+    }
+}
+
+fn set_text(p: &mut [u8], call: &[u8], s: Span)
+    requires { ⌜ (length (now p) ≡ payloadWidth) × within (now call) textLimit s ⌝ }
+    ensures { λ _. ⌜ Turns (withText (part (now (call .entry)) s)) (now (p .entry)) (now (p .exit)) ⌝ }
+{
+    let a = s.at;
+    let e = a + s.len;
+    record::set_text(p, &call[a..e]);
+}
+
+// What a raise brings to an alarm that is active.
+pub struct News {
+    pub time: u64,
+    pub severity: u8,
+    pub text: Span,
+    pub details: OptSpan,
+}
+
+pub fn updated_by(p: &mut [u8], call: &[u8], news: News)
+    requires { ⌜ IsAlarm lastActive (now p) × NewsWithin (now call) news ⌝ }
+    ensures { λ _. ⌜ now (p .exit) ≡ alarmBytes (updatedWith (newsOf (now (call .entry)) news) (readAlarm (now (p .entry)))) ⌝ }
+{
+    let t = time::late(news.time, record::raised_at(p));
+    let s = updated_state(record::state(p));
+    record::set_severity(p, news.severity);
+    set_text(p, call, news.text);
+    let details = news.details;
+    set_details(p, call, details);
+    record::set_state(p, s);
+    record::set_updated(p, t);
+}
