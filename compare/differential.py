@@ -62,8 +62,11 @@ def modelled(orders):
 
 
 def ran(path, orders):
-    """What a program writes for a list; where it ends badly, what it wrote until then."""
-    return subprocess.run([path, "run"], input=written(orders), stdout=subprocess.PIPE, stderr=subprocess.DEVNULL).stdout
+    """What a program writes for a list; where it ends badly or does not end, what it wrote until then."""
+    try:
+        return subprocess.run([path, "run"], input=written(orders), stdout=subprocess.PIPE, stderr=subprocess.DEVNULL, timeout=60).stdout
+    except subprocess.TimeoutExpired as late:
+        return late.stdout or b""
 
 
 class Register:
@@ -118,8 +121,9 @@ def unequal(found, wanted):
 
 def for_the_rust(orders):
     """Whether the Rust can follow: it has no register in bytes, and no slice to open."""
-    return all(not isinstance(order, Given) and not (isinstance(order, Open) and model.open(bytearray(order.size), *order.limits) == 21)
-               for order in orders)
+    if any(isinstance(order, Given) for order in orders):
+        return False
+    return all(model.open(bytearray(order.size), *order.limits) != 21 for order in orders if isinstance(order, Open))
 
 
 def outcomes(orders, tools):
@@ -169,26 +173,25 @@ def twins_differ(order, one, other):
 
 def checked(case, tools, tally):
     """Raises Difference where a case shows one; counts what its calls gave."""
-    if case.twin is None:
-        for order, outcome in zip(case.orders, outcomes(case.orders, tools)):
-            count(tally, order, outcome)
-        return
-    pairs = zip(case.orders, outcomes(case.orders, tools), outcomes(case.twin, tools))
-    for place, (order, one, other) in enumerate(pairs):
-        count(tally, order, one)
-        count(tally, order, other)
-        fault = twins_differ(order, one, other)
+    sides = [counted(orders, tools, tally) for orders in case.lists()]
+    for place, (order, *found) in enumerate(zip(case.orders, *sides)):
+        fault = twins_differ(order, *found) if case.twin else None
         if fault:
             raise Difference(place, fault)
 
 
-def count(tally, order, outcome):
-    if isinstance(order, Step):
-        tally["calls"] += 1
-    if outcome.number:
-        tally[f"number {outcome.number}"] += 1
-    elif isinstance(order, Step):
-        tally[f"operation {order.call[0]} code {outcome.answer[0]}"] += 1
+def counted(orders, tools, tally):
+    """The outcomes, each counted by its number or code."""
+    by_rust = bool(tools.oracle) and for_the_rust(orders)
+    for order, outcome in zip(orders, outcomes(orders, tools)):
+        if isinstance(order, Step):
+            tally["calls"] += 1
+            tally["calls that the Rust made"] += by_rust
+        if outcome.number:
+            tally[f"number {outcome.number}"] += 1
+        elif isinstance(order, Step):
+            tally[f"operation {order.call[0]} code {outcome.answer[0]}"] += 1
+        yield outcome
 
 
 # ---- a failing list, made small

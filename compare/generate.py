@@ -11,8 +11,8 @@ from calls import call
 from orders import Counters, Given, Open, Step
 from reading import NAMES, OBJECTS, Call, Refused
 from records import CHAINS, WIDTH, alarm_record, event_record, put_link, put_number
+from register import Register
 
-AMPLE = 64 * WIDTH
 TIMES = [0, 1, 2, 3, 100, -1, -2, 255, 256, 2**63 - 1, 2**63 - 2, -2**63, 1 - 2**63]
 IDS = [b"a", b"b", b"c", b"d", b"", "ü".encode(), b"i" * 64]
 TYPES = [b"t", b"t", b"t", b"", b"u" * 64]
@@ -61,21 +61,26 @@ def damaged_call(rng, data):
     return data[:at] + (bytes([data[at] ^ 1 << rng.randrange(8)]) if way == 2 else rng.randbytes(rng.randrange(3))) + data[at + 1:]
 
 
-def room(rng):
+def ample(limits_):
+    """Room for every answer."""
+    return 16 + WIDTH * max(limits_)
+
+
+def room(rng, most):
     if rng.random() < 0.9:
-        return AMPLE
+        return most
     edge = 16 + WIDTH * rng.randrange(5)
     return rng.choice([0, 15, 16, 34, 1551, 1552, 1553, edge, edge - 1, edge + 1, rng.randrange(4000)])
 
 
-def steps(rng, count):
-    """Steps by chance."""
+def steps(rng, count, most):
+    """Steps by chance, most of them with so much room for the answer."""
     objects = rng.sample(OBJECTS_SENT, rng.choice([2, 3, 5, len(OBJECTS_SENT)]))
     choose = rng.choice([plain_values, plain_values, values])
     for _ in range(count):
         chance = rng.random()
         data = rng.choice(odd_calls()) if chance < 0.03 else call(rng.choice(OPERATIONS), **choose(rng, objects))
-        yield Step(damaged_call(rng, data) if 0.03 < chance < 0.07 else data, room(rng), rng.randrange(256))
+        yield Step(damaged_call(rng, data) if 0.03 < chance < 0.07 else data, room(rng, most), rng.randrange(256))
 
 
 def limits(rng):
@@ -90,10 +95,11 @@ def opened(limits_, former=0xEE):
 
 def fresh(rng, count):
     """A list from opening; at times with counters that soon wrap."""
-    orders = [opened(limits(rng), rng.randrange(256))]
+    given = limits(rng)
+    orders = [opened(given, rng.randrange(256))]
     if rng.random() < 0.1:
         orders.append(Counters(2**64 - rng.randint(1, 3), 2**64 - rng.randint(1, 3)))
-    return orders + list(steps(rng, count))
+    return orders + list(steps(rng, count, ample(given)))
 
 
 def refused_opening(rng):
@@ -104,9 +110,8 @@ def refused_opening(rng):
     return rng.choice([Open(tuple(bad), 2 * WIDTH, 7), Open(given, size, 7), Open(given, 0, 7)])
 
 
-def forged(rng):
+def forged(rng, a, h, e):
     """A sound register that no list of calls need reach: equal ids and keys, times and states of all kinds, any order of records."""
-    a, h, e = limits(rng)
     order = list(range(1, 1 + a + h + e))
     rng.shuffle(order)
     data = bytearray(WIDTH * (1 + len(order)))
@@ -158,13 +163,14 @@ def from_registers(rng, count):
     """Calls on forged and on damaged registers."""
     orders = []
     for _ in range(count // 8):
-        register = forged(rng)
+        given = limits(rng)
+        register = forged(rng, *given)
         if rng.random() < 0.5:
-            orders += [Given(bytes(register)), *steps(rng, 8)]
+            orders += [Given(bytes(register)), *steps(rng, 8, ample(given))]
         else:
             for _ in range(4):
-                orders += [Given(damaged(rng, register)), *steps(rng, 2)]
-    return orders + list(steps(rng, count % 8))
+                orders += [Given(damaged(rng, register)), *steps(rng, 2, ample(given))]
+    return orders
 
 
 def twin(rng, orders):
@@ -189,7 +195,7 @@ ALPHABET = [call(1), call(1, severity=5, text=b"x"), call(1, id=b"b", object=(6,
 
 def short_lists():
     """Every list of three calls of an alphabet, with the reports after it, on registers of the smallest limits."""
-    reports = [Step(data, AMPLE, 0x5A) for data in (call(8), call(9), call(10), call(11), call(12, n=9))]
+    reports = [Step(data, ample((2, 2, 1)), 0x5A) for data in (call(8), call(9), call(10), call(11), call(12, n=9))]
     for limits_ in ((1, 1, 1), (2, 2, 1)):
         for calls in itertools.product(ALPHABET, repeat=3):
             yield [opened(limits_), *(Step(data, 1552, 0xA5) for data in calls), *reports]
@@ -198,7 +204,20 @@ def short_lists():
 def every_call():
     """The calls of tests/calls one after the other on a register that holds a few alarms, each kind of object among them."""
     objects = [(kind, *(b"a", b"b", 1)[:len(parts)]) for kind, parts in OBJECTS.items()]
-    start = [opened((9, 5, 2)), *(Step(call(1, id=b"%d" % i, object=o), AMPLE) for i, o in enumerate(objects))]
+    room_ = ample((9, 5, 2))
+    start = [opened((9, 5, 2)), *(Step(call(1, id=b"%d" % i, object=o), room_) for i, o in enumerate(objects))]
     found = odd_calls()
     for at in range(0, len(found), 100):
-        yield start + [Step(data, AMPLE, 0xC3) for data in found[at:at + 100]]
+        yield start + [Step(data, room_, 0xC3) for data in found[at:at + 100]]
+
+
+def largest():
+    """A register of the largest limit whose free chain begins at its end: indices that two bytes do not hold."""
+    most = 65535
+    count = most + 2
+    data = bytearray(WIDTH * (1 + count))
+    for name, value in (("A", most), ("H", 1), ("E", 1)):
+        put_number(data, name, value)
+    Register(data, [[], [], [], list(range(count, 0, -1))]).link()
+    calls = [call(1), call(1, **{"id": b"b", "object": (6, b"b")}), call(5), call(2), call(8), call(9)]
+    return [Open((most, 1, 1), len(data), 0x11), Given(bytes(data)), *(Step(sent, 16 + 4 * WIDTH) for sent in calls)]

@@ -22,7 +22,7 @@ STANDIN = Tools(driver=str(pathlib.Path(standin.__file__).resolve()))
 def some_list():
     rng = random.Random(8)
     tail = [Step(data, 2000, 1) for data in (call(2), call(1), call(1, id=b"b", severity=4), call(2), call(3, id=b"i" * 65), call(11))]
-    return [generate.opened((2, 3, 1)), *generate.steps(rng, 60), *tail, Step(call(1), 2000, 1), Step(call(1, type=b"z"), 2000, 1)]
+    return [generate.opened((2, 3, 1)), *generate.steps(rng, 60, 8000), *tail, Step(call(1), 2000, 1), Step(call(1, type=b"z"), 2000, 1)]
 
 
 def faultless(_root):

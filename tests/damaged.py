@@ -97,6 +97,7 @@ DAMAGES = {
     (repository, "vectors are Python's"): [
         ("a digest", VECTORS, r"^e3b0c44298fc1c14", "e3b0c44298fc1c15"),
         ("a digest too many", VECTORS, r"\Z", "00\n"),
+        ("a verdict", "crates/register_damaged/stdout", r"^unsound", "sound"),
     ],
     (repository, "files are in rt fmt's layout"): [
         ("a blank too many", CODE, r"pub fn equal", "pub  fn equal"),
@@ -105,8 +106,8 @@ DAMAGES = {
 
 def copied(folder):
     """A copy of what the checks read."""
-    for name in ("crates", "docs", "tests", ".ci"):
-        shutil.copytree(HERE / name, folder / name, ignore=shutil.ignore_patterns("__pycache__"))
+    for name in ("crates", "docs", "tests", "compare", ".ci"):
+        shutil.copytree(HERE / name, folder / name, ignore=shutil.ignore_patterns("__pycache__", "target"))
     for name in ("crates.txt", "README.md", "NOTICE"):
         shutil.copy(HERE / name, folder / name)
 

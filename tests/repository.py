@@ -23,8 +23,10 @@ HOME = {name: module for module, names in MEANING.items() for name in names}
 DOCUMENTS = ["README.md", "NOTICE", "docs/*.md"]
 
 # The scripts that write what programs are to read and to print, and the files that they write.
-SCRIPTS = ["tests/vectors/*.py", "tests/calls/make.py"]
-WRITTEN = ["crates/*_vectors/stdout", "crates/calls_replay/std*"]
+SCRIPTS = ["tests/vectors/*.py", "tests/calls/make.py", "tests/register/make.py"]
+WRITTEN = ["crates/*_vectors/stdout", "crates/calls_replay/std*", "crates/register_damaged/std*"]
+# What the scripts read.
+SOURCES = ["tests/**/*.py", "compare/*.py", "docs/layout.json"]
 
 
 def texts(root, *patterns):
@@ -216,10 +218,10 @@ def vectors(root):
         raise Skip("tests/vectors is not there yet")
     with tempfile.TemporaryDirectory() as name:
         copy = pathlib.Path(name)
-        for folder in {script.parent for script in scripts}:
-            shutil.copytree(root / folder, copy / folder)
-        for file in stored:
+        for file in [*matching(root, SOURCES), *stored]:
             (copy / file.parent).mkdir(parents=True, exist_ok=True)
+        for file in matching(root, SOURCES):
+            shutil.copy(root / file, copy / file)
         for script in scripts:
             subprocess.run([sys.executable, "-B", copy / script], cwd=copy, check=True)
         for file in sorted({*stored, *matching(copy, WRITTEN)}):

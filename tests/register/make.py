@@ -1,8 +1,7 @@
 #!/usr/bin/env python3
 """Writes crates/register_damaged/stdin and stdout: registers with orders to damage and check them, and what the program is to print.
 
-The verdicts are those of compare/soundness.py, written from document 01. `make.py --check` writes nothing and says whether both
-files are up to date.
+The verdicts are those of compare/soundness.py, written from document 01.
 """
 import itertools
 import pathlib
@@ -205,16 +204,10 @@ def main():
     orders.load(1, len(OTHER))
     orders.flip(len(OTHER), 0x01)
     assert len(orders.stdin()) <= 65536, "the program's buffer is too small"
-    files = {"stdin": orders.stdin(), "stdout": orders.stdout()}
     folder = ROOT / "crates/register_damaged"
-    if sys.argv[1:] == ["--check"]:
-        stale = [name for name, data in files.items() if (folder / name).read_bytes() != data]
-        print(f"crates/register_damaged: {', '.join(stale)} out of date" if stale else "crates/register_damaged is up to date")
-        return 1 if stale else 0
-    for name, data in files.items():
-        (folder / name).write_bytes(data)
-    return 0
+    (folder / "stdin").write_bytes(orders.stdin())
+    (folder / "stdout").write_bytes(orders.stdout())
 
 
 if __name__ == "__main__":
-    sys.exit(main())
+    main()
