@@ -1,0 +1,54 @@
+//! The alarm register of a cable car's station, over bytes that the caller lends.
+//!
+//! The register raises and clears alarms, lets people acknowledge and suppress them, expires old ones, keeps a history and an
+//! audit trail, and answers lists, counts and a summary. What it does is fixed byte for byte and proved; this crate puts types
+//! around the two functions of its static library. It allocates nothing, has no dependency and needs `core` alone.
+//!
+//! Start with [`Register`]. Operations are [`Raise`], [`Clear`], [`PlainAction`], [`PolicyAction`], [`Expire`],
+//! [`ListActive`], [`ListHistory`], [`CountActive`], [`Summarise`] and [`TakeAudit`]; each says what it is answered by.
+//!
+//! ```
+//! use alarm_register::{Limits, ListActive, Object, Raise, Register, Severity, Time};
+//!
+//! let limits = Limits { active: 16, history: 64, audit: 16 };
+//! let mut bytes = vec![0; limits.register_length()];
+//! let mut answer = vec![0; limits.answer_room()];
+//! let mut register = Register::open(&mut bytes, limits)?;
+//!
+//! for tower in ["tower-3", "tower-4"] {
+//!     let sheaves = Object::Interface { nf: tower, name: "sheaves" };
+//!     let worn = Raise::new(Time(0), tower, "sheave.wear", Severity::Major, "other:ropeway.sheave-wear", sheaves);
+//!     register.perform(&worn, &mut answer)?;
+//! }
+//! for alarm in register.perform(&ListActive { severity: None }, &mut answer)? {
+//!     println!("{alarm}");
+//! }
+//! # Ok::<(), alarm_register::Refusal>(())
+//! ```
+#![no_std]
+#![deny(unsafe_code, missing_docs)]
+
+mod answer;
+mod bytes;
+mod call;
+mod entry;
+pub mod layout;
+mod object;
+mod operation;
+mod record;
+mod refusal;
+mod register;
+mod time;
+mod values;
+
+pub use answer::{code_name, ActionAnswer, Alarms, AuditEvents, ClearAnswer, Count, Counts, Head, RaiseAnswer, Records, Summary};
+pub use bytes::{CallBytes, CALL_ROOM};
+pub use call::{Clear, PlainAction, PolicyAction, Raise};
+pub use layout::{ANSWER_ROOM, HEAD_WIDTH, RECORD_WIDTH};
+pub use object::{Object, Scope};
+pub use operation::{Call, CountActive, Expire, ListActive, ListHistory, Operation, Summarise, TakeAudit};
+pub use record::{Alarm, AuditEvent, Key};
+pub use refusal::Refusal;
+pub use register::{check_call, Limits, Register};
+pub use time::{Date, Time};
+pub use values::{Action, Outcome, Readiness, Severity, State};

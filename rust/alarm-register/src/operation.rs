@@ -1,0 +1,187 @@
+//! Operations as calls, with what each is answered by.
+use crate::answer::{ActionAnswer, Alarms, AuditEvents, ClearAnswer, Counts, RaiseAnswer, Summary};
+use crate::bytes::{CallBytes, Fields};
+use crate::call::{Clear, PlainAction, PolicyAction, Raise};
+use crate::layout::longest;
+use crate::time::Time;
+use crate::values::{Action, Severity};
+
+/// 7: puts every active alarm that last changed before the cutoff into history as expired. Answered by how many.
+#[derive(Clone, Copy, Debug, PartialEq, Eq)]
+pub struct Expire {
+    /// The cutoff.
+    pub before: Time,
+}
+
+/// 8: lists the active alarms, oldest first.
+#[derive(Clone, Copy, Debug, PartialEq, Eq)]
+pub struct ListActive {
+    /// Those of one severity, or all.
+    pub severity: Option<Severity>,
+}
+
+/// 9: lists the history, oldest first.
+#[derive(Clone, Copy, Debug, PartialEq, Eq, Default)]
+pub struct ListHistory<'a> {
+    /// Entries of one tenant, or all.
+    pub tenant: Option<&'a str>,
+    /// Entries of one slice, or all.
+    pub slice: Option<&'a str>,
+}
+
+/// 10: counts the active alarms by severity and cause.
+#[derive(Clone, Copy, Debug, PartialEq, Eq)]
+pub struct CountActive;
+
+/// 11: sums up: how many are active, the worst of them, and the audit counters.
+#[derive(Clone, Copy, Debug, PartialEq, Eq)]
+pub struct Summarise;
+
+/// 12: takes the oldest audit events out of the register.
+#[derive(Clone, Copy, Debug, PartialEq, Eq)]
+pub struct TakeAudit {
+    /// No more than that many.
+    pub at_most: u16,
+}
+
+mod sealed {
+    pub trait Sealed {}
+}
+
+/// An operation that a register performs.
+pub trait Operation: sealed::Sealed {
+    /// What it is answered by.
+    type Answer<'a>;
+
+    /// Its call.
+    fn call(&self) -> CallBytes;
+
+    /// Its answer from the bytes that a register gave; `None` where they are not such an answer.
+    fn read_answer(answer: &[u8]) -> Option<Self::Answer<'_>>;
+}
+
+/// Makes a type an operation: how its call is written, and what its answer is.
+macro_rules! operation {
+    ($($name:ty, $answer:ty, $self:ident => $write:expr, $bytes:ident => $read:expr;)*) => {
+        $(impl sealed::Sealed for $name {}
+
+        impl Operation for $name {
+            type Answer<'a> = $answer;
+
+            fn call(&$self) -> CallBytes {
+                $write
+            }
+
+            fn read_answer($bytes: &[u8]) -> Option<Self::Answer<'_>> {
+                $read
+            }
+        })*
+    };
+}
+
+operation! {
+    Raise<'_>, RaiseAnswer<'a>, self => self.write(), answer => RaiseAnswer::read(answer);
+    Clear<'_>, ClearAnswer<'a>, self => self.write(), answer => ClearAnswer::read(answer);
+    PlainAction<'_>, ActionAnswer<'a>, self => self.write(), answer => ActionAnswer::read(answer);
+    PolicyAction<'_>, ActionAnswer<'a>, self => self.write(), answer => ActionAnswer::read(answer);
+    Expire, u64, self => with(7, |call| call.time(self.before)), answer => Some(crate::answer::Head::report(answer)?.0.number);
+    ListActive, Alarms<'a>, self => with(8, |call| call.byte(self.severity.map_or(255, Severity::byte))), answer => Alarms::read(answer);
+    ListHistory<'_>, Alarms<'a>, self => with(9, |call| scoped(call, self)), answer => Alarms::read(answer);
+    CountActive, Counts<'a>, self => CallBytes::new(10), answer => Counts::read(answer);
+    Summarise, Summary, self => CallBytes::new(11), answer => Summary::read(answer);
+    TakeAudit, AuditEvents<'a>, self => with(12, |call| call.raw(&self.at_most.to_be_bytes())), answer => AuditEvents::read(answer);
+}
+
+fn with(operation: u8, fields: impl FnOnce(&mut CallBytes)) -> CallBytes {
+    let mut call = CallBytes::new(operation);
+    fields(&mut call);
+    call
+}
+
+fn scoped(call: &mut CallBytes, list: &ListHistory<'_>) {
+    call.option(list.tenant.map(str::as_bytes), longest::TENANT);
+    call.option(list.slice.map(str::as_bytes), longest::SLICE);
+}
+
+/// Any of the twelve operations, as read from the bytes of a call.
+///
+/// ```
+/// use alarm_register::{Call, Operation, Summarise};
+/// let call = Summarise.call();
+/// assert!(matches!(Call::read(call.as_bytes()), Some(Call::Summarise(_))));
+/// assert_eq!(Call::read(b"junk"), None);
+/// ```
+#[derive(Clone, Copy, Debug, PartialEq, Eq)]
+pub enum Call<'a> {
+    /// 1
+    Raise(Raise<'a>),
+    /// 2
+    Clear(Clear<'a>),
+    /// 3 or 4
+    Plain(PlainAction<'a>),
+    /// 5 or 6
+    Policy(PolicyAction<'a>),
+    /// 7
+    Expire(Expire),
+    /// 8
+    ListActive(ListActive),
+    /// 9
+    ListHistory(ListHistory<'a>),
+    /// 10
+    CountActive(CountActive),
+    /// 11
+    Summarise(Summarise),
+    /// 12
+    TakeAudit(TakeAudit),
+}
+
+impl<'a> Call<'a> {
+    /// The operation that a call's bytes ask for; `None` where a field is missing or too long, or bytes are left over.
+    ///
+    /// Whether a register would take the call is [`check_call`](crate::check_call)'s to say: this does not judge causes.
+    pub fn read(call: &'a [u8]) -> Option<Call<'a>> {
+        let mut fields = Fields(call);
+        let read = match fields.byte()? {
+            1 => Call::Raise(Raise::read(&mut fields)?),
+            2 => Call::Clear(Clear::read(&mut fields)?),
+            3 => Call::Plain(PlainAction::read(Action::Acknowledge, &mut fields)?),
+            4 => Call::Plain(PlainAction::read(Action::Suppress, &mut fields)?),
+            5 => Call::Policy(PolicyAction::read(Action::Acknowledge, &mut fields)?),
+            6 => Call::Policy(PolicyAction::read(Action::Suppress, &mut fields)?),
+            7 => Call::Expire(Expire { before: fields.time()? }),
+            8 => Call::ListActive(ListActive { severity: one_or_all(fields.byte()?)? }),
+            9 => {
+                Call::ListHistory(ListHistory { tenant: fields.option(longest::TENANT)?, slice: fields.option(longest::SLICE)? })
+            }
+            10 => Call::CountActive(CountActive),
+            11 => Call::Summarise(Summarise),
+            12 => Call::TakeAudit(TakeAudit { at_most: fields.u16()? }),
+            _ => return None,
+        };
+        fields.0.is_empty().then_some(read)
+    }
+
+    /// The bytes of the call.
+    pub fn bytes(&self) -> CallBytes {
+        match self {
+            Call::Raise(operation) => operation.call(),
+            Call::Clear(operation) => operation.call(),
+            Call::Plain(operation) => operation.call(),
+            Call::Policy(operation) => operation.call(),
+            Call::Expire(operation) => operation.call(),
+            Call::ListActive(operation) => operation.call(),
+            Call::ListHistory(operation) => operation.call(),
+            Call::CountActive(operation) => operation.call(),
+            Call::Summarise(operation) => operation.call(),
+            Call::TakeAudit(operation) => operation.call(),
+        }
+    }
+}
+
+fn one_or_all(byte: u8) -> Option<Option<Severity>> {
+    if byte == 255 {
+        Some(None)
+    } else {
+        Severity::from_byte(byte).map(Some)
+    }
+}

@@ -1,0 +1,119 @@
+//! Refusals: why a call was not performed.
+use core::fmt;
+
+/// Why opening or a call was refused. The register and the answer slice are then as they were.
+///
+/// Each has its number of document 01 and a sentence; where several faults are there, the first in this order is told.
+///
+/// ```
+/// use alarm_register::Refusal;
+/// assert_eq!(Refusal::Cause.number(), 28);
+/// assert_eq!(Refusal::Cause.to_string(), "28: the cause is not a known name, nor `other:` and a name with a dot");
+/// ```
+#[derive(Clone, Copy, Debug, PartialEq, Eq, Hash, PartialOrd, Ord)]
+#[non_exhaustive]
+pub enum Refusal {
+    /// 20
+    Limits,
+    /// 21
+    RegisterLength,
+    /// 22
+    Unsound,
+    /// 23
+    Operation,
+    /// 24
+    CallLength,
+    /// 25
+    Value,
+    /// 26
+    TooLong,
+    /// 27
+    Utf8,
+    /// 28
+    Cause,
+    /// 29
+    Region,
+    /// 30
+    AnswerLength,
+    /// 31
+    IdActive,
+    /// 32
+    FreeEnded,
+    /// A number that this crate does not know: the linked library is newer.
+    Unlisted(u32),
+}
+
+impl Refusal {
+    /// All refusals of document 01, by rising number.
+    pub const ALL: [Refusal; 13] = [
+        Refusal::Limits,
+        Refusal::RegisterLength,
+        Refusal::Unsound,
+        Refusal::Operation,
+        Refusal::CallLength,
+        Refusal::Value,
+        Refusal::TooLong,
+        Refusal::Utf8,
+        Refusal::Cause,
+        Refusal::Region,
+        Refusal::AnswerLength,
+        Refusal::IdActive,
+        Refusal::FreeEnded,
+    ];
+
+    /// The refusal of a number.
+    pub fn from_number(number: u32) -> Refusal {
+        let known = Refusal::ALL.into_iter().find(|refusal| refusal.number() == number);
+        known.unwrap_or(Refusal::Unlisted(number))
+    }
+
+    /// The number of document 01.
+    pub fn number(self) -> u32 {
+        match self {
+            Refusal::Limits => 20,
+            Refusal::RegisterLength => 21,
+            Refusal::Unsound => 22,
+            Refusal::Operation => 23,
+            Refusal::CallLength => 24,
+            Refusal::Value => 25,
+            Refusal::TooLong => 26,
+            Refusal::Utf8 => 27,
+            Refusal::Cause => 28,
+            Refusal::Region => 29,
+            Refusal::AnswerLength => 30,
+            Refusal::IdActive => 31,
+            Refusal::FreeEnded => 32,
+            Refusal::Unlisted(number) => number,
+        }
+    }
+
+    /// What is wrong, in one sentence without the number.
+    pub fn sentence(self) -> &'static str {
+        match self {
+            Refusal::Limits => "a limit is 0 or above 65,535",
+            Refusal::RegisterLength => {
+                "the register's length is not 1,536 bytes for the header and for each record of the limits"
+            }
+            Refusal::Unsound => "the bytes are not a sound register",
+            Refusal::Operation => "the call is empty, or its operation is not 1 to 12",
+            Refusal::CallLength => "the call ends early, or has bytes left over",
+            Refusal::Value => "a byte of the call is outside its values",
+            Refusal::TooLong => "a string of the call is longer than its limit",
+            Refusal::Utf8 => "a string of the call is not UTF-8",
+            Refusal::Cause => "the cause is not a known name, nor `other:` and a name with a dot",
+            Refusal::Region => "the raise has a region that is present and empty",
+            Refusal::AnswerLength => "the slice for the answer is too short",
+            Refusal::IdActive => "the raise would store an id that is active",
+            Refusal::FreeEnded => "no record is free",
+            Refusal::Unlisted(_) => "the library gave a number that this program does not know",
+        }
+    }
+}
+
+impl fmt::Display for Refusal {
+    fn fmt(&self, f: &mut fmt::Formatter<'_>) -> fmt::Result {
+        write!(f, "{}: {}", self.number(), self.sentence())
+    }
+}
+
+impl core::error::Error for Refusal {}
