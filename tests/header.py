@@ -1,0 +1,117 @@
+#!/usr/bin/env python3
+"""The C header: its constants are the layout's, and a cabinet's program compiles as C and as C++ and runs."""
+import json
+import pathlib
+import re
+import shutil
+import subprocess
+import sys
+import tempfile
+
+from checklist import Skip, run
+
+HEADER, PROGRAM, PRINTED = "include/alarm_register.h", "examples/cabinet.c", "examples/cabinet.out"
+LIBRARY = "target/staticlib/libstation.a"
+WARNINGS = ["-Wall", "-Wextra", "-Werror", "-pedantic"]
+
+# The header's limits of strings, and the fields of docs/LAYOUT.md that have these rooms. A denial is in no record.
+LONGEST = {
+    "ID": "id", "TYPE": "type", "OBJECT_STRING": "object string 0", "TENANT": "tenant", "SLICE": "slice", "PRINCIPAL": "principal",
+    "CORRELATION": "correlation", "SCOPE_STRING": "scope string", "CAUSE": "cause", "REGION": "region", "TEXT": "text",
+    "REASON": "reason", "DETAILS": "details",
+}
+
+
+def constants(root):
+    """The header's constants by name."""
+    text = (root / HEADER).read_text(encoding="utf-8")
+    return {name: int(number) for name, number in re.findall(r"^#define (\w+) +(\d+)u", text, re.M)}
+
+
+def offsets(prefix, fields):
+    """The constants that the fields of a record must have, with their offsets."""
+    for name, field in fields.items():
+        constant = prefix + name.upper()
+        if isinstance(field, int):
+            yield constant, field
+        elif isinstance(field, list):
+            yield constant, field[0]
+        elif name == "object":
+            yield constant + "_KIND", field["kind"]
+            yield constant + "_SHARD_PRESENT", field["shard_present"]
+            yield constant + "_QUEUE", field["queue"]
+            for place, string in enumerate(field["strings"]):
+                yield from offsets(f"{constant}_", {f"STRING_{place}": string})
+        elif name == "scope":
+            yield constant + "_KIND", field["kind"]
+            yield from offsets(f"{constant}_", {"STRING": field["string"]})
+        else:
+            if "present" in field:
+                yield constant + "_PRESENT", field["present"]
+            if "len" in field:
+                yield constant + "_LENGTH", field["len"][0]
+            yield constant, field["at"]
+
+
+def layout(root):
+    """Each offset of docs/layout.json is in the header, and no other offset is."""
+    tree = json.loads((root / "docs/layout.json").read_text(encoding="utf-8"))
+    wanted = {}
+    for prefix, record in (("ALARM_HEADER_", "header"), ("ALARM_RECORD_", "alarm"), ("ALARM_EVENT_", "event")):
+        wanted.update(offsets(prefix, tree[record]))
+    given = {name: number for name, number in constants(root).items() if re.match(r"ALARM_(HEADER|RECORD|EVENT)_(?!WIDTH$)", name)}
+    for name in sorted(wanted.keys() | given.keys()):
+        if wanted.get(name) != given.get(name):
+            yield f"{name} is {given.get(name)} in the header, {wanted.get(name)} in docs/layout.json"
+
+
+def longest(root):
+    """The limits of strings are the rooms of docs/LAYOUT.md."""
+    page = (root / "docs/LAYOUT.md").read_text(encoding="utf-8")
+    rooms = {name: int(width) for name, width in re.findall(r"^\| ([a-z 01]+) \| \d+ \| (\d+) \| (?:UTF-8|any|a cause)", page, re.M)}
+    given = {name.removeprefix("ALARM_LONGEST_"): number for name, number in constants(root).items() if name.startswith("ALARM_LONGEST_")}
+    for name in sorted(LONGEST.keys() | given.keys() - {"DENIAL"}):
+        if given.get(name) is None or given.get(name) != rooms.get(LONGEST.get(name)):
+            yield f"ALARM_LONGEST_{name} is {given.get(name)}, the room {rooms.get(LONGEST.get(name))}"
+
+
+def refusals(root):
+    """The header and the Rust crate have the same refusals, 20 to 32, once each."""
+    header = [number for name, number in constants(root).items() if name.startswith("ALARM_REFUSED_")]
+    source = (root / "rust/alarm-register/src/refusal.rs").read_text(encoding="utf-8")
+    crate = [int(number) for number in re.findall(r"^ +Refusal::\w+ => (\d+),", source, re.M)]
+    for name, numbers in (("the header", header), ("the crate", crate)):
+        if numbers != list(range(20, 33)):
+            yield f"{name} has {numbers}"
+
+
+def compiled(compiler, language):
+    """A check: the program compiles without a warning, runs, and prints what it should."""
+    def go(root):
+        if not shutil.which(compiler):
+            raise Skip(f"{compiler} is not on this machine")
+        if not (root / LIBRARY).exists():
+            raise Skip(f"{LIBRARY} is not built; `make lib` builds it")
+        with tempfile.TemporaryDirectory() as folder:
+            program = pathlib.Path(folder) / "cabinet"
+            words = [compiler, *language, *WARNINGS, f"-I{root / 'include'}", root / PROGRAM, "-x", "none", root / LIBRARY, "-o", program]
+            done = subprocess.run(words, stdout=subprocess.PIPE, stderr=subprocess.STDOUT, text=True)
+            if done.returncode:
+                yield from done.stdout.splitlines()[:10] or [f"{compiler}: exit status {done.returncode}"]
+                return
+            done = subprocess.run([program], stdout=subprocess.PIPE, text=True)
+            if done.returncode or done.stdout != (root / PRINTED).read_text(encoding="utf-8"):
+                yield f"it ends with {done.returncode} and prints {done.stdout!r}"
+    return go
+
+
+CHECKS = {
+    "offsets are the layout's": layout,
+    "limits of strings are the layout's": longest,
+    "refusals are 20 to 32": refusals,
+    "a cabinet's program in C": compiled("gcc", ["-std=c99"]),
+    "the same program in C++": compiled("g++", ["-x", "c++", "-std=c++11"]),
+}
+
+if __name__ == "__main__":
+    sys.exit(run("header", CHECKS))
