@@ -1,0 +1,129 @@
+//! `station`: lists of calls to a station alarm register, for the desk.
+mod check;
+mod examine;
+mod failure;
+mod figures;
+mod files;
+mod list;
+mod options;
+mod page;
+mod progress;
+mod record;
+mod recount;
+mod replay;
+mod table;
+mod text;
+mod twin;
+
+use failure::{Failure, FINE};
+use options::Options;
+use std::io::Write;
+use std::process::ExitCode;
+
+const HELP: &str = "\
+station COMMAND FILE [OPTIONS]
+
+Keeps the calls of a station alarm register as files, runs them, and recounts reports. `station COMMAND --help` says more.
+
+  write TEXT -o LIST               makes a list of calls (.calls) from its text form
+  read LIST                        prints a list in its text form; the two are inverse
+  replay LIST                      runs the calls, and prints the register as a page of the station's book
+  recount LIST --against REPORT    the figures of the raw calls beside those of a report
+  twin LIST                        runs the calls with other texts, and shows that every figure is the same
+  check REGISTER                   whether a file holds a sound register, and where to look if not
+
+Exit status: 0 fine; 1 figures or twins differ, or the register is not sound; 2 the command line is not understood;
+3 a file does not hold what it should; 4 a file cannot be read or written. A reader that stops early, as in
+`station replay day.calls | head`, ends the program quietly with 0.
+";
+
+const WRITE_HELP: &str = "\
+station write TEXT [-o LIST]
+
+Makes a list of calls from its text form: one call a line, as in
+
+    limits active=16 history=64 audit=16
+    2026-03-14 09:12:04 raise id=A1 type=drive.trip severity=critical cause=other:ropeway.drive-trip
+    object=interface(drive,converter) text=\"overcurrent\"                                (all on one line)
+    2026-03-14 09:13 acknowledge id=A1 authorised=yes
+
+docs/CALLS.md has every operation and every way to write a date. A call that a register would refuse for what it says
+(numbers 23 to 29) is a fault here, told with its line and column; bytes of any kind can be written with `raw`.
+TEXT may be - for standard input; without -o the list goes to standard output.
+
+Exit status: 0, 2 command line not understood, 3 TEXT has a fault, 4 a file cannot be read or written.
+";
+
+const READ_HELP: &str = "\
+station read LIST [-o TEXT]
+
+Prints a list of calls in its text form, times in UTC. `station write` makes the same bytes of it again. A call that a
+register refuses for what it says is printed as its bytes, with the refusal as a comment.
+LIST may be - for standard input.
+
+Exit status: 0, 2 command line not understood, 3 LIST is not a list of calls, 4 a file cannot be read or written.
+";
+
+/// What carries out a command, its help, and the options that it has.
+struct Command {
+    name: &'static str,
+    help: &'static str,
+    options: &'static [&'static str],
+    run: fn(&Options) -> Result<u8, Failure>,
+}
+
+const COMMANDS: [Command; 6] = [
+    Command { name: "write", help: WRITE_HELP, options: &["-o"], run: write },
+    Command { name: "read", help: READ_HELP, options: &["-o"], run: read },
+    Command { name: "replay", help: page::HELP, options: &["-o", "--only", "--json", "--csv"], run: page::command },
+    Command {
+        name: "recount",
+        help: recount::HELP,
+        options: &["--against", "--partial", "--json", "--csv"],
+        run: recount::command,
+    },
+    Command { name: "twin", help: twin::HELP, options: &["--json", "--csv"], run: twin::command },
+    Command { name: "check", help: check::HELP, options: &["--json", "--csv"], run: check::command },
+];
+
+fn write(options: &Options) -> Result<u8, Failure> {
+    let list = text::read(&files::text(&options.file)?).map_err(|fault| Failure::input(&options.file, fault))?;
+    files::write(options.output.as_deref(), &list.write()).map(|()| FINE)
+}
+
+fn read(options: &Options) -> Result<u8, Failure> {
+    let list = files::list(&options.file)?;
+    files::write(options.output.as_deref(), text::write(&list).as_bytes()).map(|()| FINE)
+}
+
+fn asks_for_help(word: &String) -> bool {
+    word == "--help" || word == "-h"
+}
+
+fn run(words: &[String]) -> Result<u8, Failure> {
+    let Some((name, rest)) = words.split_first() else {
+        return Err(Failure::Usage("no command is given; see `station --help`".to_string()));
+    };
+    if asks_for_help(name) || name == "help" {
+        return files::print(HELP.as_bytes()).map(|()| FINE);
+    }
+    let Some(command) = COMMANDS.iter().find(|command| command.name == name) else {
+        return Err(Failure::Usage(format!("there is no command {name}; see `station --help`")));
+    };
+    if rest.iter().any(asks_for_help) {
+        return files::print(command.help.as_bytes()).map(|()| FINE);
+    }
+    (command.run)(&Options::read(name, command.options, rest)?)
+}
+
+fn main() -> ExitCode {
+    let words: Vec<String> = std::env::args_os().skip(1).map(|word| word.to_string_lossy().into_owned()).collect();
+    let status = run(&words).unwrap_or_else(|failure| {
+        if let Failure::Usage(said) | Failure::Input(said) | Failure::System(said) = &failure {
+            // where standard error is closed too, the status alone tells
+            let _ = writeln!(std::io::stderr(), "station: {said}");
+        }
+        failure.status()
+    });
+    ExitCode::from(status)
+}

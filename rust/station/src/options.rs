@@ -1,0 +1,72 @@
+//! The command line.
+use crate::failure::Failure;
+
+/// The form of the output.
+#[derive(Clone, Copy, Debug, PartialEq, Eq)]
+pub enum Form {
+    /// For people.
+    Page,
+    /// For scripts.
+    Json,
+    /// For scripts and spreadsheets.
+    Csv,
+}
+
+/// What stands on the command line behind the command's name.
+#[derive(Debug)]
+pub struct Options {
+    /// The file that the command is about.
+    pub file: String,
+    /// Where the command writes.
+    pub output: Option<String>,
+    /// The report that is recounted.
+    pub against: Option<String>,
+    /// The table that is wanted.
+    pub only: Option<String>,
+    /// Whether figures that a report leaves out are no differences.
+    pub partial: bool,
+    /// The form of the output.
+    pub form: Form,
+}
+
+impl Options {
+    /// Reads the words behind a command; `known` are the options that it has.
+    pub fn read(command: &str, known: &[&str], words: &[String]) -> Result<Options, Failure> {
+        let mut options =
+            Options { file: String::new(), output: None, against: None, only: None, partial: false, form: Form::Page };
+        let mut files = Vec::new();
+        let mut words = words.iter();
+        while let Some(word) = words.next() {
+            if !word.starts_with('-') || word == "-" {
+                files.push(word.clone());
+            } else if !known.contains(&word.as_str()) {
+                return Err(usage(command, &format!("there is no option {word}")));
+            } else {
+                options.set(command, word, &mut words)?;
+            }
+        }
+        match <[String; 1]>::try_from(files) {
+            Ok([file]) => Ok(Options { file, ..options }),
+            Err(files) => Err(usage(command, &format!("one file is needed, and {} are named", files.len()))),
+        }
+    }
+
+    fn set<'a>(&mut self, command: &str, word: &str, rest: &mut impl Iterator<Item = &'a String>) -> Result<(), Failure> {
+        let mut value = || rest.next().cloned().ok_or_else(|| usage(command, &format!("{word} needs a value")));
+        match word {
+            "-o" => self.output = Some(value()?),
+            "--against" => self.against = Some(value()?),
+            "--only" => self.only = Some(value()?),
+            "--partial" => self.partial = true,
+            "--json" | "--csv" if self.form != Form::Page => return Err(usage(command, "--json and --csv do not go together")),
+            "--json" => self.form = Form::Json,
+            _ => self.form = Form::Csv,
+        }
+        Ok(())
+    }
+}
+
+/// A command line that is not understood.
+pub fn usage(command: &str, fault: &str) -> Failure {
+    Failure::Usage(format!("{fault}; see `station {command} --help`"))
+}

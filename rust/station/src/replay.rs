@@ -1,0 +1,126 @@
+//! Lists of calls, run from a fresh register.
+use crate::list::List;
+use crate::progress::Progress;
+use alarm_register::{AuditEvents, CallBytes, Head, Operation, Refusal, Register, TakeAudit};
+use std::collections::BTreeMap;
+
+/// A register of its own, with room for every answer.
+pub struct Machine {
+    register: Vec<u8>,
+    answer: Vec<u8>,
+}
+
+impl Machine {
+    /// A fresh register for a list.
+    pub fn fresh(list: &List) -> Result<Machine, String> {
+        let limits = list.limits;
+        // no memory is asked for where the limits are refused
+        if let Err(refusal @ Refusal::Limits) = Register::open(&mut [], limits) {
+            return Err(format!("the register cannot be opened with {limits}: {refusal}"));
+        }
+        let mut register = vec![0; limits.register_length()];
+        Register::open(&mut register, limits).map_err(|refusal| format!("the register cannot be opened: {refusal}"))?;
+        // a longer slice than any answer fills makes no difference
+        let room = limits.answer_room();
+        let length = list.answer.and_then(|length| usize::try_from(length).ok()).map_or(room, |length| length.min(room));
+        Ok(Machine { register, answer: vec![0; length] })
+    }
+
+    /// The register's bytes.
+    pub fn register(&self) -> &[u8] {
+        &self.register
+    }
+
+    /// Performs a call of the list.
+    pub fn step(&mut self, call: &[u8]) -> Result<&[u8], Refusal> {
+        Register::over(&mut self.register).step(call, &mut self.answer)
+    }
+
+    /// The answer to an operation, on a copy of the register: what the list's calls find is not changed by looking.
+    pub fn look(&self, call: &CallBytes) -> Result<Vec<u8>, Refusal> {
+        let mut copy = self.register.clone();
+        let mut register = Register::over(&mut copy);
+        let mut answer = vec![0; register.limits().map_or(0, |limits| limits.answer_room())];
+        register.step(call.as_bytes(), &mut answer).map(<[u8]>::to_vec)
+    }
+}
+
+/// How often each cause was raised.
+#[derive(Debug, Default, Clone, PartialEq, Eq)]
+pub struct Raises {
+    /// The cause.
+    pub cause: String,
+    /// Answers Raised: new alarms.
+    pub alarms: u64,
+    /// Answers Raised or Updated.
+    pub raises: u64,
+}
+
+/// What a list's answers add up to.
+#[derive(Debug, Default, Clone, PartialEq, Eq)]
+pub struct Tally {
+    /// Calls.
+    pub calls: u64,
+    /// Refused calls, by number.
+    pub refused: BTreeMap<u32, u64>,
+    /// Answers, by code.
+    pub codes: BTreeMap<u8, u64>,
+    /// Alarms expired by all calls together.
+    pub expired: u64,
+    /// Raises by cause, in the order in which causes first appear.
+    pub causes: Vec<Raises>,
+    /// The records of audit events that calls took out, each with the place of its call.
+    pub taken: Vec<(u64, Vec<u8>)>,
+}
+
+impl Tally {
+    /// Adds a call and what it got.
+    pub fn add(&mut self, call: &[u8], got: Result<&[u8], Refusal>) {
+        self.calls += 1;
+        match got {
+            Err(refusal) => *self.refused.entry(refusal.number()).or_default() += 1,
+            Ok(answer) => self.answered(call, answer),
+        }
+    }
+
+    fn answered(&mut self, call: &[u8], answer: &[u8]) {
+        let Some((head, body)) = Head::read(answer) else { return };
+        *self.codes.entry(head.code).or_default() += 1;
+        match call.first() {
+            Some(1) if head.code <= 2 => self.raised(head.code == 1, body),
+            Some(7) => self.expired += head.number,
+            Some(12) => self.taken.extend(records(answer).map(|record| (self.calls, record.to_vec()))),
+            _ => {}
+        }
+    }
+
+    fn raised(&mut self, new: bool, record: &[u8]) {
+        let Some(alarm) = alarm_register::Alarm::read(record) else { return };
+        let known = self.causes.iter().position(|raises| raises.cause == alarm.cause);
+        let place = known.unwrap_or_else(|| {
+            self.causes.push(Raises { cause: alarm.cause.to_string(), ..Raises::default() });
+            self.causes.len() - 1
+        });
+        self.causes[place].raises += 1;
+        self.causes[place].alarms += u64::from(new);
+    }
+}
+
+/// The records of an answer that lists audit events.
+fn records(answer: &[u8]) -> impl Iterator<Item = &[u8]> {
+    let events: Option<AuditEvents<'_>> = TakeAudit::read_answer(answer);
+    let count = events.map_or(0, |events| events.len());
+    answer[alarm_register::HEAD_WIDTH..].chunks(alarm_register::RECORD_WIDTH).take(count)
+}
+
+/// Runs a whole list; gives the register at its end, and what the answers add up to.
+pub fn run(list: &List) -> Result<(Machine, Tally), String> {
+    let mut machine = Machine::fresh(list)?;
+    let mut tally = Tally::default();
+    let mut progress = Progress::new(list.calls.len());
+    for (place, call) in list.calls.iter().enumerate() {
+        progress.done(place);
+        tally.add(call, machine.step(call));
+    }
+    Ok((machine, tally))
+}
