@@ -1,0 +1,291 @@
+#!/usr/bin/env python3
+"""The crate and the program `station`, built and used as a new user would: every command on good and on bad input."""
+import csv
+import io
+import json
+import os
+import pathlib
+import shutil
+import subprocess
+import sys
+import tempfile
+
+from checklist import HERE, Skip, run
+
+LIBRARY = HERE / "target/staticlib/libstation.a"
+STATION = HERE / "rust/target/debug/station"
+COMMANDS = ("write", "read", "replay", "recount", "twin", "check")
+WORK = pathlib.Path(tempfile.mkdtemp(prefix="desk"))
+DAY, MONTH = WORK / "day.calls", WORK / "month.calls"
+
+
+def ready():
+    """Builds the static library where it is not there; skips where this machine cannot link programs."""
+    for tool in ("cargo", "cc"):
+        if not shutil.which(tool):
+            raise Skip(f"{tool} is not on this machine")
+    if not LIBRARY.exists():
+        if not (HERE / "crates/station").exists():
+            raise Skip("there is no crate station yet")
+        subprocess.run(["rt", "staticlib", "station"], cwd=HERE, check=True, stdout=subprocess.DEVNULL)
+
+
+def cargo(*words, **variables):
+    words = ["cargo", *words, "--offline", "--quiet", "--manifest-path", HERE / "rust/Cargo.toml"]
+    environment = {**{name: value for name, value in os.environ.items() if name != "ALARM_REGISTER_LIB"}, **variables}
+    return subprocess.run(words, stdout=subprocess.PIPE, stderr=subprocess.STDOUT, text=True, env=environment)
+
+
+def station(*words, given=None):
+    """Runs the program; gives its status, and what it wrote to both streams."""
+    given = given.encode() if isinstance(given, str) else given
+    done = subprocess.run([STATION, *map(str, words)], input=given, capture_output=True, cwd=HERE)
+    return done.returncode, done.stdout, done.stderr.decode()
+
+
+def ends(status, said, *words, given=None):
+    """The faults of a run that should end with this status, and say this and nothing more in one line."""
+    got, out, err = station(*words, given=given)
+    if got != status or said not in err or out or err.count("\n") != 1 or not err.startswith("station: "):
+        yield f"{' '.join(map(str, words))}: status {got}, not {status}: {err.strip()!r} has no {said!r}, or more"
+
+
+def works(*words, given=None, status=0):
+    """What a run prints that should go well."""
+    got, out, err = station(*words, given=given)
+    if got != status or err:
+        raise ValueError(f"{' '.join(map(str, words))}: status {got}: {err.strip()}")
+    return out
+
+
+def with_program(check):
+    """The check, skipped where the program could not be built."""
+    def go(root):
+        if not STATION.exists():
+            raise Skip("the program is not built")
+        return check(root)
+    return go
+
+
+def saved(name, data):
+    path = WORK / name
+    path.write_bytes(data.encode() if isinstance(data, str) else data)
+    return path
+
+
+def builds(_root):
+    """Both crates build and pass their tests, without the network."""
+    ready()
+    for words in (["test"], ["build"]):
+        done = cargo(*words)
+        if done.returncode:
+            yield from done.stdout.splitlines()[-30:]
+
+
+def library_missing(_root):
+    """Where the static library is missing one sentence says how to make it."""
+    ready()
+    with tempfile.TemporaryDirectory() as folder:
+        done = cargo("build", ALARM_REGISTER_LIB=f"{folder}/libstation.a", CARGO_TARGET_DIR=folder)
+    if done.returncode == 0 or "make it with `make lib` at the repository's root" not in done.stdout:
+        yield done.stdout[-500:]
+
+
+def helped(_root):
+    """--help tells of each command, with its exit statuses; a command line that is not understood is told in a sentence."""
+    for words in [["--help"], *([command, "--help"] for command in COMMANDS)]:
+        if b"Exit status" not in works(*words):
+            yield f"{words} has no exit statuses"
+    yield from ends(2, "no command is given")
+    yield from ends(2, "there is no command wriet", "wriet", "x")
+    for command in COMMANDS:
+        yield from ends(2, "one file is needed, and 0 are named", command)
+        yield from ends(2, "there is no option --loud", command, "x", "--loud")
+    yield from ends(2, "-o needs a value", "write", "x", "-o")
+    yield from ends(2, "do not go together", "replay", "x", "--json", "--csv")
+
+
+def written(_root):
+    """Text becomes a list, the list becomes text, and both ways are inverse."""
+    works("write", HERE / "examples/day.txt", "-o", DAY)
+    month = subprocess.run([sys.executable, "-B", HERE / "examples/second-case/month.py"], capture_output=True, check=True).stdout
+    works("write", "-", "-o", MONTH, given=month)
+    for calls in (DAY, MONTH):
+        text = works("read", calls)
+        if works("write", "-", given=text) != calls.read_bytes():
+            yield f"{calls.name} is another list after read and write"
+        if works("read", "-", given=calls.read_bytes()) != text:
+            yield f"{calls.name} reads otherwise from standard input"
+
+
+def text_faults(_root):
+    """Faults of a text have their line and column; what is no text, or cannot be written, is told."""
+    head = "limits active=2 history=3 audit=1\n"
+    yield from ends(3, "bad.txt: line 3, column 18: an operation is", "write", saved("bad.txt", head + "\n2026-03-14 09:30 rise id=a\n"))
+    clear = "2026-03-14 09:30 clear type=t cause=sheave-wear object=tenant(a)\n"
+    yield from ends(3, "line 2, column 37: the cause is not a known name", "write", "-", given=head + clear)
+    yield from ends(3, "line 2: this is not text", "write", saved("junk.txt", head.encode() + b"\xff\xfe\x00"))
+    yield from ends(3, "the register's limits are missing", "write", saved("empty.txt", ""))
+    yield from ends(4, "there is no such file", "write", WORK / "nowhere.txt")
+    yield from ends(4, "cannot write", "write", HERE / "examples/day.txt", "-o", WORK / "nowhere/day.calls")
+    yield from ends(4, "it is a folder", "write", HERE / "examples/day.txt", "-o", WORK)
+    yield from ends(4, "cannot read", "write", WORK)
+
+
+def list_faults(_root):
+    """Every command tells of a list that is none, or that was cut, and where."""
+    whole = DAY.read_bytes()
+    lists = [
+        ("empty.calls", b"", "the file is empty"),
+        ("junk.calls", bytes(range(256)) * 9, "not a list of calls"),
+        ("text.calls", (HERE / "examples/day.txt").read_bytes(), "make the list with `station write`"),
+        ("head.calls", whole[:20], "cut off inside its first 28 bytes"),
+        ("call.calls", whole[:100], "cut off inside call 1"),
+        ("mark.calls", whole[:-8], "cut off after call 29: the end mark is missing"),
+        ("count.calls", whole[:-1], "cut off inside the end mark"),
+        ("more.calls", whole + b"\0", "1 bytes follow the end mark"),
+        ("version.calls", whole[:8] + b"\0\0\0\2" + whole[12:], "a list of version 2"),
+    ]
+    for name, data, said in lists:
+        path = saved(name, data)
+        for command in ("read", "replay", "recount", "twin"):
+            yield from ends(3, said, command, path)
+    limits = saved("limits.calls", whole[:12] + b"\xff" * 12 + whole[24:])
+    for command in ("replay", "recount", "twin"):
+        yield from ends(3, "20: a limit is 0 or above 65,535", command, limits)
+        yield from ends(4, "there is no such file", command, WORK / "nowhere.calls")
+
+
+def table(calls, name):
+    """The rows of a table of a page, by CSV."""
+    return list(csv.DictReader(io.StringIO(works("replay", calls, "--only", name, "--csv").decode(), newline="")))
+
+
+def page(_root):
+    """The day's page is the one that is shown, and the same tables come as JSON and CSV."""
+    (HERE / "target/desk").mkdir(parents=True, exist_ok=True)
+    shutil.copy(DAY, HERE / "target/desk/day.calls")
+    if works("replay", "target/desk/day.calls").decode() != (HERE / "examples/day.page").read_text(encoding="utf-8"):
+        yield "examples/day.page is not what `station replay` prints"
+    whole = json.loads(works("replay", DAY, "--json"))
+    for name in ("active", "history", "audit", "counts", "answers", "summary"):
+        rows = table(DAY, name)
+        plain = [{key: "" if value is None else str(value) for key, value in row.items()} for row in whole[name]]
+        if rows != plain or not rows:
+            yield f"{name} differs between CSV and JSON"
+    yield from ends(2, "--csv needs --only", "replay", DAY, "--csv")
+    yield from ends(2, "--only takes one of active, history", "replay", DAY, "--only", "everything")
+    yield from ends(4, "cannot write", "replay", DAY, "-o", WORK / "nowhere/day.register")
+
+
+def steered(_root):
+    """A text that steers terminals, or breaks CSV and JSON, does neither."""
+    text = 'a\x1b[31m"b",\nc\u202e'
+    words = f'2026-03-14 09:30 raise id=a type=t severity=minor cause=lease-lost object=tenant(a) text="{text}"'
+    words = words.replace('"b"', r'\"b\"').replace("\n", r"\n")
+    calls = saved("text.calls", works("write", "-", given=f"limits active=1 history=1 audit=1\n{words}\n"))
+    if b"\x1b" in works("replay", calls) or b"\x1b" in works("read", calls) or "\u202e".encode() in works("replay", calls):
+        yield "a page lets a text steer the terminal"
+    for rows in (json.loads(works("replay", calls, "--json"))["active"], table(calls, "active")):
+        if rows[0]["text"] != text:
+            yield f"{rows[0]['text']!r} is not the text"
+
+
+def recounted(_root):
+    """A report is equal, or each difference stands in a row and the status is 1."""
+    shutil.copy(MONTH, HERE / "target/desk/month.calls")
+    out = works("recount", "target/desk/month.calls", "--against", "examples/second-case/report.csv", status=1).decode()
+    if out != (HERE / "examples/second-case/recount").read_text(encoding="utf-8"):
+        yield "examples/second-case/recount is not what `station recount` prints"
+    true = works("recount", MONTH, "--csv").decode()
+    if b"Equal: the 25 figures" not in works("recount", MONTH, "--against", saved("true.csv", true)):
+        yield "a list's own figures are not equal to it"
+    spoilt = json.loads(works("recount", MONTH, "--against", saved("spoilt.csv", true.replace("cleared,7", "cleared,8")), "--json", status=1))
+    if spoilt["differing"] != 1 or [row["difference"] for row in spoilt["figures"] if row["difference"]] != ["+1"]:
+        yield f"one changed figure gives {spoilt}"
+    part = saved("part.csv", "figure,value\ncalls,3344\n")
+    works("recount", MONTH, "--against", part, "--partial")
+    works("recount", MONTH, "--against", part, status=1)
+    yield from ends(2, "--partial needs --against", "recount", MONTH, "--partial")
+
+
+def report_faults(_root):
+    """A report that is none is told with its line."""
+    reports = [
+        (b"", "the file is empty"), (b"\xff\xfe", "line 1: this is not text"), (b"a,b\n", "line 1: a report begins with"),
+        (b"figure,value\ncals,1\n", "line 2: there is no figure `cals`"), (b"figure,value\ncalls\n", "line 2: two fields are needed"),
+        (b"figure,value\ncalls,1\n\ncalls,1\n", "line 4: the figure `calls` is given twice"),
+        (b'figure,value\n"calls,1\n', "line 2: a quote is not closed"), (MONTH.read_bytes(), "this is not text"),
+    ]
+    for data, said in reports:
+        yield from ends(3, said, "recount", MONTH, "--against", saved("report.csv", data))
+    yield from ends(4, "there is no such file", "recount", MONTH, "--against", WORK / "nowhere.csv")
+
+
+def twins(_root):
+    """Other texts and details change nothing else."""
+    for calls, raises in ((DAY, 13), (MONTH, 3335)):
+        said = json.loads(works("twin", calls, "--json"))
+        if not said["same"] or said["compared"][0]["number"] != raises:
+            yield f"{calls.name}: {said}"
+
+
+def checked(_root):
+    """A stored register is sound; a damaged one is not, and the damaged byte is where a person is sent."""
+    register = WORK / "day.register"
+    works("replay", DAY, "-o", register)
+    if b"a sound register" not in works("check", register):
+        yield "the day's register is not sound"
+    whole = register.read_bytes()
+    damages = [(3, 0), (19, 9), (100, 1), (39, 255), (1536 + 20, 6), (1536 * 2 + 3, 200)]
+    for byte, value in damages:
+        data = bytearray(whole)
+        data[byte] = value
+        said = json.loads(works("check", saved("damaged.register", bytes(data)), "--json", status=1))
+        if said["sound"] or not any(abs(place["byte"] - byte) < 8 for place in said["places"]):
+            yield f"byte {byte} as {value}: {said}"
+    for data in (b"", bytes(range(256)), whole[:-1], whole + b"\0", MONTH.read_bytes()):
+        if b"not a sound register (22)" not in works("check", saved("junk.register", data), status=1):
+            yield f"{len(data)} bytes are sound"
+    yield from ends(4, "there is no such file", "check", WORK / "nowhere.register")
+
+
+def closed(_root):
+    """A reader that stops early ends the program quietly; output that cannot be written is told."""
+    with subprocess.Popen([STATION, "read", MONTH], stdout=subprocess.PIPE, stderr=subprocess.PIPE) as job:
+        job.stdout.read(10)
+        job.stdout.close()
+        said = job.stderr.read()
+    if job.returncode != 0 or said:
+        yield f"closed pipe: status {job.returncode}, {said!r}"
+    if pathlib.Path("/dev/full").exists():
+        with open("/dev/full", "wb") as full:
+            done = subprocess.run([STATION, "read", MONTH], stdout=full, stderr=subprocess.PIPE, text=True)
+        if done.returncode != 4 or "cannot write standard output: the disk is full" not in done.stderr:
+            yield f"full disk: status {done.returncode}, {done.stderr!r}"
+
+
+USES = {
+    "help and command lines": helped,
+    "write and read are inverse": written,
+    "faults of texts": text_faults,
+    "faults of lists": list_faults,
+    "the page, JSON and CSV": page,
+    "texts do not steer": steered,
+    "reports are recounted": recounted,
+    "faults of reports": report_faults,
+    "twins are the same": twins,
+    "registers are checked": checked,
+    "closed pipes and full disks": closed,
+}
+CHECKS = {
+    "both crates pass their tests": builds,
+    "a missing library is told": library_missing,
+    **{name: with_program(check) for name, check in USES.items()},
+}
+
+if __name__ == "__main__":
+    try:
+        sys.exit(run("desk", CHECKS))
+    finally:
+        shutil.rmtree(WORK)
