@@ -1,29 +1,31 @@
--- The variant that the code has met.
-use mathlib.Core.Path.{_≡_, sym, ap, subst}
+-- The variant that the code has met: its parts lie in the call, and its slot is that of the value.
+use mathlib.Core.Path.{_≡_, sym, ap, subst, _∙_}
 use Prim.Native.Nat.{ℕ}
 use Rattle.octets.specs.Bytes.{Bytes, splice}
 use Rattle.definition.specs.Slot.{string, option}
-use Rattle.definition.specs.Record.{anyBytes, causeSlot, objectSlot}
+use Rattle.definition.specs.Record.{anyBytes, objectSlot, scopeSlot}
 use Rattle.model.specs.declared.OptSpan.{OptSpan}
-use Rattle.model.specs.declared.CauseSpan.{CauseSpan}
 use Rattle.model.specs.declared.AffectedObject.{AffectedObject}
-use Rattle.model.specs.Meaning.{optPart, causePart, objectValue, optWithin, causeWithin, objectWithin}
+use Rattle.model.specs.Meaning.{optPart, objectValue, optWithin, objectWithin}
+use Rattle.policy.specs.declared.Scope.{Scope}
+use Rattle.policy.specs.Meaning.{scopeValue, scopeWithin}
+
+module _ (call b : Bytes) {c : Bytes} where
+  pub option-slot : (at n : ℕ) {s t : OptSpan} → s ≡ t → c ≡ splice b at (option (string n anyBytes) .put (optPart call t)) → c ≡ splice b at (option (string n anyBytes) .put (optPart call s))
+  option-slot at n e q = q ∙ ap (λ (x : OptSpan). splice b at (option (string n anyBytes) .put (optPart call x))) (sym e)
+
+  pub object-slot : {o p : AffectedObject} → o ≡ p → c ≡ splice b 273 (objectSlot .put (objectValue call p)) → c ≡ splice b 273 (objectSlot .put (objectValue call o))
+  object-slot e q = q ∙ ap (λ (x : AffectedObject). splice b 273 (objectSlot .put (objectValue call x))) (sym e)
+
+  pub scope-slot : {s t : Scope} → s ≡ t → c ≡ splice b 631 (scopeSlot .put (scopeValue call t)) → c ≡ splice b 631 (scopeSlot .put (scopeValue call s))
+  scope-slot e q = q ∙ ap (λ (x : Scope). splice b 631 (scopeSlot .put (scopeValue call x))) (sym e)
 
 module _ (call : Bytes) where
   pub option-case : (n : ℕ) {s t : OptSpan} → s ≡ t → optWithin call n s → optWithin call n t
   option-case n e w = subst (λ (x : OptSpan). optWithin call n x) e w
 
-  pub option-slot : (b : Bytes) (at n : ℕ) {s t : OptSpan} → s ≡ t → splice b at (option (string n anyBytes) .put (optPart call t)) ≡ splice b at (option (string n anyBytes) .put (optPart call s))
-  option-slot b at n e = ap (λ (x : OptSpan). splice b at (option (string n anyBytes) .put (optPart call x))) (sym e)
-
-  pub cause-case : {c d : CauseSpan} → c ≡ d → causeWithin call c → causeWithin call d
-  cause-case e w = subst (λ (x : CauseSpan). causeWithin call x) e w
-
-  pub cause-slot : (b : Bytes) {c d : CauseSpan} → c ≡ d → splice b 175 (causeSlot .put (causePart call d)) ≡ splice b 175 (causeSlot .put (causePart call c))
-  cause-slot b e = ap (λ (x : CauseSpan). splice b 175 (causeSlot .put (causePart call x))) (sym e)
-
   pub object-case : {o p : AffectedObject} → o ≡ p → objectWithin call o → objectWithin call p
   object-case e w = subst (λ (x : AffectedObject). objectWithin call x) e w
 
-  pub object-slot : (b : Bytes) {o p : AffectedObject} → o ≡ p → splice b 273 (objectSlot .put (objectValue call p)) ≡ splice b 273 (objectSlot .put (objectValue call o))
-  object-slot b e = ap (λ (x : AffectedObject). splice b 273 (objectSlot .put (objectValue call x))) (sym e)
+  pub scope-case : {s t : Scope} → s ≡ t → scopeWithin call s → scopeWithin call t
+  scope-case e w = subst (λ (x : Scope). scopeWithin call x) e w

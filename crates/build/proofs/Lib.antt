@@ -1,4 +1,3 @@
 pub mod Wrote
 pub mod Stretches
-pub mod Stored
 pub mod Cases

@@ -1,3 +1,4 @@
 pub mod Raised
+pub mod Acted
 pub mod Stretch
 pub mod BuiltLaws

@@ -7,52 +7,23 @@ use model::Record;
 use model::Span;
 use record::AlarmAt;
 ghost use mathlib.Core.Path.{_≡_};
-ghost use mathlib.Core.List.{[], _∷_, _++_};
-ghost use Prim.Native.Nat.{_+_, _≤_, _<_};
-ghost use lib.ListN.{length, getD};
+ghost use mathlib.Core.List.{_∷_};
+ghost use lib.ListN.{length};
 ghost use Rattle.octets.specs.Bytes.{zeros, splice};
-ghost use Rattle.definition.specs.Limits.{shortLimit, causeLimit};
+ghost use Rattle.definition.specs.Limits.{shortLimit};
 ghost use Rattle.definition.specs.Book.{payloadWidth};
-ghost use Rattle.definition.specs.Cause.{names, other};
 ghost use Rattle.definition.specs.Slot.{join, option};
 ghost use Rattle.definition.specs.Record.{short, causeSlot, objectParts, objectSlot};
 ghost use Rattle.model.specs.Meaning.{part, optPart, causePart, objectValue, within, optWithin, causeWithin, objectWithin};
 
-// ---- the cause, in its stored form
-
-// A name, by its place.
-fn name_into(p: &mut [u8], k: usize)
-    requires { ⌜ (length (now p) ≡ payloadWidth) × (k < 21) ⌝ }
-    ensures { λ _. ⌜ now (p .exit) ≡ splice (now (p .entry)) 175 (causeSlot .put (getD names k [])) ⌝ }
-{
-    let mut stored = [0u8; 96];
-    let n = cause::put_name(&mut stored, 0, k);
-    record::put_string(p, AlarmAt::CAUSE, Record::CAUSE, &stored[..n]);
-}
-
-// `other:` and the trimmed name.
-fn other_into(p: &mut [u8], call: &[u8], s: Span)
-    requires { ⌜ (length (now p) ≡ payloadWidth) × (s .at + s .len ≤ length (now call)) × (6 + s .len ≤ causeLimit) ⌝ }
-    ensures { λ _. ⌜ now (p .exit) ≡ splice (now (p .entry)) 175 (causeSlot .put (other ++ part (now (call .entry)) s)) ⌝ }
-{
-    let a = s.at;
-    let n = s.len;
-    let e = a + n;
-    let mut stored = [0u8; 96];
-    octets::put_bytes(&mut stored, 0, b"other:");
-    octets::put_bytes(&mut stored, 6, &call[a..e]);
-    let m = 6 + n;
-    record::put_string(p, AlarmAt::CAUSE, Record::CAUSE, &stored[..m]);
-}
-
+// The cause in its stored form. It is put as a string of a call first, with a length of four bytes.
 pub fn cause_into(p: &mut [u8], call: &[u8], c: CauseSpan)
     requires { ⌜ (length (now p) ≡ payloadWidth) × causeWithin (now call) c ⌝ }
     ensures { λ _. ⌜ now (p .exit) ≡ splice (now (p .entry)) 175 (causeSlot .put (causePart (now (call .entry)) c)) ⌝ }
 {
-    match c {
-        CauseSpan::Name(k) => name_into(p, k),
-        CauseSpan::Other(s) => other_into(p, call, s),
-    }
+    let mut string = [0u8; 100];
+    let e = strings::put_cause(&mut string, 0, call, c);
+    record::put_string(p, AlarmAt::CAUSE, Record::CAUSE, &string[4..e]);
 }
 
 // ---- the affected object

@@ -1,31 +1,36 @@
--- A name by its place, or `other:` and a part of the call.
-use mathlib.Core.Path.{_∙_}
-use Rattle.build.proofs.Cases.{cause-case, cause-slot}
+-- The string that is put behind its length is the cause.
+use mathlib.Core.Path.{ap, _∙_}
+use Rattle.octets.specs.Bytes.{Bytes, splice}
+use Rattle.definition.specs.Slot.{stringBytes}
+use Rattle.model.specs.Meaning.{causePart}
+use Rattle.build.proofs.Stretches.{past-length, string-behind}
 use borrow.Author.Needs.{needs}
 use Rattle.build.proofs.about.cause_into.Statement.{statement}
 use Rattle.build.proofs.about.cause_into.Tie as tie
 
-name-into-requires : tie.Need-name-into-requires
-name-into-requires c κs = let s = c .before .before .before .before .before .before in (s .pre .0, cause-case (s .args .call .now) (c .before .before .c .given .1) (s .pre .1))
+sub-put-string : tie.Need-sub-put-string
+sub-put-string c = let s = c .before .before .before .before .before .before .args in past-length (causePart (s .call .now) (s .c)) (c .before .before .put-cause .ensures)
 
-other-into-requires : tie.Need-other-into-requires
-other-into-requires c κs = let s = c .before .before .before .before .before .before in let w = cause-case (s .args .call .now) (c .before .before .c2 .given .1) (s .pre .1) in (s .pre .0, w .0, w .1)
+part-put-string-start : tie.Need-part-put-string-start
+part-put-string-start c =
+    let s = c .before .before .before .before .before .before .before .args in
+    let h = past-length (causePart (s .call .now) (s .c)) (c .before .before .before .put-cause .ensures) in
+    search needs
 
 returns : tie.Need-returns
-returns c = let s = c .before .before .before .before .before .before .before .before .before .args in c .before .before .name-into .ensures ∙ cause-slot (s .call .now) (s .p .now) (c .before .before .before .before .before .c .given .1)
-
-returns-2 : tie.Need-returns-2
-returns-2 c = let s = c .before .before .before .before .before .before .before .before .before .args in c .before .before .other-into .ensures ∙ cause-slot (s .call .now) (s .p .now) (c .before .before .before .before .before .c2 .given .1)
+returns c =
+    let s = c .before .before .before .before .before .before .before .before .before .before .before .args in
+    c .before .before .put-string .ensures ∙ ap (λ (x : Bytes). splice (s .p .now) 175 (stringBytes 96 x)) (string-behind (causePart (s .call .now) (s .c)) (c .before .before .before .before .before .before .before .put-cause .ensures))
 
 pub cause-into-spec : {M : Type 1} → statement M
 cause-into-spec =
     tie.close
     (tie.spec
     (λ c. search needs)
-    name-into-requires
+    (λ c κs. search needs)
+    sub-put-string
+    part-put-string-start
     (λ c. search needs)
-    other-into-requires
+    (λ c κs. search needs)
     (λ c. search needs)
-    returns
-    (λ c. search needs)
-    returns-2)
+    returns)

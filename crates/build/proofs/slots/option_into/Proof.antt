@@ -1,5 +1,4 @@
 -- Zeros, or byte 1 and the string.
-use mathlib.Core.Path.{_∙_}
 use Rattle.build.proofs.Stretches.{absent}
 use Rattle.build.proofs.Cases.{option-case, option-slot}
 use borrow.Author.Needs.{needs}
@@ -12,12 +11,12 @@ marked-into-requires c κs = let s = c .before .before .before .before .before .
 returns : tie.Need-returns
 returns c =
     let s = c .before .before .before .before .before .before .before .before .args in
-    c .before .before .put-zeros .ensures ∙ absent (s .p .now) (s .at) (s .n) ∙ option-slot (s .call .now) (s .p .now) (s .at) (s .n) (c .before .before .before .before .enum-told .given .1)
+    option-slot (s .call .now) (s .p .now) (s .at) (s .n) (c .before .before .before .before .enum-told .given .1) (absent (s .p .now) (s .at) (s .n) (c .before .before .put-zeros .ensures))
 
 returns-2 : tie.Need-returns-2
 returns-2 c =
     let s = c .before .before .before .before .before .before .before .before .before .args in
-    c .before .before .marked-into .ensures ∙ option-slot (s .call .now) (s .p .now) (s .at) (s .n) (c .before .before .before .before .before .s .given .1)
+    option-slot (s .call .now) (s .p .now) (s .at) (s .n) (c .before .before .before .before .before .s .given .1) (c .before .before .marked-into .ensures)
 
 pub option-into-spec : {M : Type 1} → statement M
 option-into-spec =

@@ -1,8 +1,7 @@
 -- The part lent is the one that the span names.
-use mathlib.Core.Path.{_∙_, ap}
 use Rattle.octets.specs.Bytes.{Bytes, splice}
 use Rattle.definition.specs.Slot.{stringBytes}
-use Rattle.build.proofs.Stretches.{span-part}
+use Rattle.build.proofs.Stretches.{span-slot}
 use borrow.Author.Needs.{needs}
 use Rattle.build.proofs.slots.part_into.Statement.{statement}
 use Rattle.build.proofs.slots.part_into.Tie as tie
@@ -10,7 +9,7 @@ use Rattle.build.proofs.slots.part_into.Tie as tie
 returns : tie.Need-returns
 returns c =
     let s = c .before .before .before .before .before .before .before .before .args in
-    c .before .before .put-string .ensures ∙ ap (λ (x : Bytes). splice (s .p .now) (s .at) (stringBytes (s .n) x)) (span-part (s .call .now) (s .s))
+    span-slot (s .call .now) (s .s) (λ (x : Bytes). splice (s .p .now) (s .at) (stringBytes (s .n) x)) (c .before .before .put-string .ensures)
 
 pub part-into-spec : {M : Type 1} → statement M
 part-into-spec =
