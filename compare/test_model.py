@@ -180,6 +180,30 @@ def answers(_root):
     yield from unlike("next is zero", station.body[:4], bytes(4))
 
 
+def unreached(_root):
+    """Sound registers that no list of calls reaches."""
+    station = after((1, dict(time=2)), (1, RB))
+    first, second = station.chain("active")
+
+    def forge(index, **fields):
+        record = alarm_record(alarm_of(unlinked(station.register, index)) | fields)
+        station.register[WIDTH * index + 4:WIDTH * (index + 1)] = record[4:]
+
+    forge(second, id=b"a", cleared_at=7)
+    station(3, time=5)
+    yield from unlike("the first of two equal ids", [alarm["state"] for alarm in station.alarms("active")], [2, 0])
+    station(1, **RB)
+    yield from unlike("a cleared_at of an active alarm stays", station.alarms("active")[1]["cleared_at"], 7)
+    forge(station.chain("history")[-1], key=bytes(16))
+    station(1, **RB)
+    keys_ = station.history("key")
+    yield from unlike("an entry with another key is overwritten", (len(keys_), keys_[-1]), (3, station.alarms("active")[1]["key"]))
+    forge(first, raised_at=9, updated_at=0)
+    station(7, time=1)
+    expired = [(alarm["updated_at"], alarm["cleared_at"]) for alarm in station.alarms("history") if alarm["raised_at"] == 9]
+    yield from unlike("expired before it was raised", expired, [(1, 1)])
+
+
 # ---- refusals
 
 def opening(_root):
@@ -241,6 +265,7 @@ CHECKS = {
     "records that chains take": places,
     "history": histories,
     "answers": answers,
+    "registers that no list reaches": unreached,
     "opening": opening,
     "order of a call's faults": order,
     "rooms for answers": rooms,
