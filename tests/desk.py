@@ -103,6 +103,7 @@ def helped(_root):
         yield from ends(2, "there is no option --loud", command, "x", "--loud")
     yield from ends(2, "-o needs a value", "write", "x", "-o")
     yield from ends(2, "do not go together", "replay", "x", "--json", "--csv")
+    yield from ends(2, "--zone takes a zone such as +01:00", "replay", "x", "--zone", "CET")
 
 
 def written(_root):
@@ -112,8 +113,9 @@ def written(_root):
     works("write", "-", "-o", MONTH, given=month)
     for calls in (DAY, MONTH):
         text = works("read", calls)
-        if works("write", "-", given=text) != calls.read_bytes():
-            yield f"{calls.name} is another list after read and write"
+        for other in (text, works("read", calls, "--zone", "+01:00"), works("read", calls, "--zone", "-09:30")):
+            if works("write", "-", given=other) != calls.read_bytes():
+                yield f"{calls.name} is another list after read and write"
         if works("read", "-", given=calls.read_bytes()) != text:
             yield f"{calls.name} reads otherwise from standard input"
 
@@ -130,6 +132,10 @@ def text_faults(_root):
     yield from ends(4, "cannot write", "write", HERE / "examples/day.txt", "-o", WORK / "nowhere/day.calls")
     yield from ends(4, "it is a folder", "write", HERE / "examples/day.txt", "-o", WORK)
     yield from ends(4, "cannot read", "write", WORK)
+    kept = saved("kept.txt", head + "summary\n")
+    yield from ends(2, "would be written over", "write", kept, "-o", WORK / "." / "kept.txt")
+    if kept.read_text(encoding="utf-8") != head + "summary\n":
+        yield "a text was written over"
 
 
 def list_faults(_root):
@@ -165,7 +171,7 @@ def page(_root):
     """The day's page is the one that is shown, and the same tables come as JSON and CSV."""
     (HERE / "target/desk").mkdir(parents=True, exist_ok=True)
     shutil.copy(DAY, HERE / "target/desk/day.calls")
-    if works("replay", "target/desk/day.calls").decode() != (HERE / "examples/day.page").read_text(encoding="utf-8"):
+    if works("replay", "--zone", "+01:00", "target/desk/day.calls").decode() != (HERE / "examples/day.page").read_text(encoding="utf-8"):
         yield "examples/day.page is not what `station replay` prints"
     whole = json.loads(works("replay", DAY, "--json"))
     for name in ("active", "history", "audit", "counts", "answers", "summary"):
@@ -200,6 +206,7 @@ def recounted(_root):
     true = works("recount", MONTH, "--csv").decode()
     if b"Equal: the 25 figures" not in works("recount", MONTH, "--against", saved("true.csv", true)):
         yield "a list's own figures are not equal to it"
+    works("recount", MONTH, "--against", saved("semicolons.csv", true.replace(",", ";")))
     spoilt = json.loads(works("recount", MONTH, "--against", saved("spoilt.csv", true.replace("cleared,7", "cleared,8")), "--json", status=1))
     if spoilt["differing"] != 1 or [row["difference"] for row in spoilt["figures"] if row["difference"]] != ["+1"]:
         yield f"one changed figure gives {spoilt}"

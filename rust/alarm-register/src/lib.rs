@@ -38,10 +38,11 @@ mod operation;
 mod record;
 mod refusal;
 mod register;
+mod report;
 mod time;
 mod values;
 
-pub use answer::{code_name, ActionAnswer, Alarms, AuditEvents, ClearAnswer, Count, Counts, Head, RaiseAnswer, Records, Summary};
+pub use answer::{code_name, ActionAnswer, ClearAnswer, Head, RaiseAnswer};
 pub use bytes::{CallBytes, CALL_ROOM};
 pub use call::{Clear, PlainAction, PolicyAction, Raise};
 pub use layout::{ANSWER_ROOM, HEAD_WIDTH, RECORD_WIDTH};
@@ -50,5 +51,6 @@ pub use operation::{Call, CountActive, Expire, ListActive, ListHistory, Operatio
 pub use record::{Alarm, AuditEvent, Key};
 pub use refusal::Refusal;
 pub use register::{check_call, Limits, Register};
+pub use report::{Alarms, AuditEvents, Count, Counts, Records, Summary};
 pub use time::{Date, Time};
 pub use values::{Action, Outcome, Readiness, Severity, State};

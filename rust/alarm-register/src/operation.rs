@@ -1,8 +1,9 @@
 //! Operations as calls, with what each is answered by.
-use crate::answer::{ActionAnswer, Alarms, AuditEvents, ClearAnswer, Counts, RaiseAnswer, Summary};
+use crate::answer::{ActionAnswer, ClearAnswer, Head, RaiseAnswer};
 use crate::bytes::{CallBytes, Fields};
 use crate::call::{Clear, PlainAction, PolicyAction, Raise};
 use crate::layout::longest;
+use crate::report::{Alarms, AuditEvents, Counts, Summary};
 use crate::time::Time;
 use crate::values::{Action, Severity};
 
@@ -84,7 +85,7 @@ operation! {
     Clear<'_>, ClearAnswer<'a>, self => self.write(), answer => ClearAnswer::read(answer);
     PlainAction<'_>, ActionAnswer<'a>, self => self.write(), answer => ActionAnswer::read(answer);
     PolicyAction<'_>, ActionAnswer<'a>, self => self.write(), answer => ActionAnswer::read(answer);
-    Expire, u64, self => with(7, |call| call.time(self.before)), answer => Some(crate::answer::Head::report(answer)?.0.number);
+    Expire, u64, self => with(7, |call| call.time(self.before)), answer => Some(Head::report(answer)?.0.number);
     ListActive, Alarms<'a>, self => with(8, |call| call.byte(self.severity.map_or(255, Severity::byte))), answer => Alarms::read(answer);
     ListHistory<'_>, Alarms<'a>, self => with(9, |call| scoped(call, self)), answer => Alarms::read(answer);
     CountActive, Counts<'a>, self => CallBytes::new(10), answer => Counts::read(answer);

@@ -10,13 +10,13 @@ pub type Figure = (String, String);
 pub fn of(machine: &Machine, tally: &Tally) -> Result<Vec<Figure>, Refusal> {
     let mut figures = vec![("calls".to_string(), tally.calls.to_string())];
     let mut add = |name: String, value: String| figures.push((name, value));
-    add("refused".to_string(), tally.refused.values().sum::<u64>().to_string());
-    for (number, calls) in &tally.refused {
-        add(format!("refused {number}"), calls.to_string());
+    add("refused".to_string(), tally.refused.values().map(|often| often.calls).sum::<u64>().to_string());
+    for (number, often) in &tally.refused {
+        add(format!("refused {number}"), often.calls.to_string());
     }
     for code in 1..=10 {
         let name = code_name(code).unwrap_or_default();
-        add(name.to_string(), tally.codes.get(&code).unwrap_or(&0).to_string());
+        add(name.to_string(), tally.codes.get(&code).map_or(0, |often| often.calls).to_string());
     }
     add("expired".to_string(), tally.expired.to_string());
     at_end(machine, &mut add)?;
@@ -90,9 +90,12 @@ pub fn report(text: &str, counted: &[Figure]) -> Result<Vec<Figure>, String> {
     Ok(figures)
 }
 
-/// The rows of a CSV text by RFC 4180, each with its line; lines without anything are passed over.
+/// The rows of a CSV text by RFC 4180, each with its line; lines without anything are passed over. Semicolons separate the
+/// fields, as some spreadsheets write them, where the first line has one and no comma.
 fn rows(text: &str) -> Result<Vec<(usize, Vec<String>)>, String> {
     let text = text.strip_prefix('\u{feff}').unwrap_or(text);
+    let first = text.lines().next().unwrap_or_default();
+    let separator = if first.contains(';') && !first.contains(',') { ';' } else { ',' };
     let (mut rows, mut row, mut field) = (Vec::new(), Vec::new(), String::new());
     let (mut line, mut start, mut inside, mut was_quoted) = (1, 1, false, false);
     let mut rest = text.chars().filter(|c| *c != '\r').chain(['\n']).peekable();
@@ -102,7 +105,7 @@ fn rows(text: &str) -> Result<Vec<(usize, Vec<String>)>, String> {
             '"' if inside => inside = false,
             '"' if field.is_empty() && !was_quoted => (inside, was_quoted) = (true, true),
             '"' => return Err(format!("line {line}: a quote inside a field must be doubled and the field quoted")),
-            ',' if !inside => {
+            c if c == separator && !inside => {
                 row.push(std::mem::take(&mut field));
                 was_quoted = false;
             }
@@ -138,6 +141,7 @@ mod tests {
         let plain: Vec<Vec<&str>> = read.iter().map(|(_, row)| row.iter().map(String::as_str).collect()).collect();
         assert_eq!(plain, [vec!["a", "b"], vec!["x, \"y\"", "two\nlines"], vec!["c", ""]]);
         assert_eq!(read[1].0, 3);
+        assert_eq!(rows("a;b\n\"x;y\";1,5\n").unwrap()[1].1, ["x;y", "1,5"]);
         assert!(rows("a,\"b\n").is_err());
         assert!(rows("a,b\"c\n").is_err());
     }

@@ -12,12 +12,13 @@ mod record;
 mod recount;
 mod replay;
 mod table;
+mod tables;
 mod text;
 mod twin;
 
 use failure::{Failure, FINE};
 use options::Options;
-use std::io::Write;
+use std::io::{IsTerminal, Write};
 use std::process::ExitCode;
 
 const HELP: &str = "\
@@ -55,11 +56,13 @@ Exit status: 0, 2 command line not understood, 3 TEXT has a fault, 4 a file cann
 ";
 
 const READ_HELP: &str = "\
-station read LIST [-o TEXT]
+station read LIST [--zone ZONE] [-o TEXT]
 
-Prints a list of calls in its text form, times in UTC. `station write` makes the same bytes of it again. A call that a
-register refuses for what it says is printed as its bytes, with the refusal as a comment.
-LIST may be - for standard input.
+Prints a list of calls in its text form. `station write` makes the same bytes of it again. A call that a register
+refuses for what it says is printed as its bytes, with the refusal as a comment. LIST may be - for standard input.
+
+  --zone ZONE   times as clocks show them that are so far ahead of UTC, as +01:00; without it, UTC
+  -o TEXT       writes to a file
 
 Exit status: 0, 2 command line not understood, 3 LIST is not a list of calls, 4 a file cannot be read or written.
 ";
@@ -74,8 +77,8 @@ struct Command {
 
 const COMMANDS: [Command; 6] = [
     Command { name: "write", help: WRITE_HELP, options: &["-o"], run: write },
-    Command { name: "read", help: READ_HELP, options: &["-o"], run: read },
-    Command { name: "replay", help: page::HELP, options: &["-o", "--only", "--json", "--csv"], run: page::command },
+    Command { name: "read", help: READ_HELP, options: &["-o", "--zone"], run: read },
+    Command { name: "replay", help: page::HELP, options: &["-o", "--only", "--zone", "--json", "--csv"], run: page::command },
     Command {
         name: "recount",
         help: recount::HELP,
@@ -87,13 +90,16 @@ const COMMANDS: [Command; 6] = [
 ];
 
 fn write(options: &Options) -> Result<u8, Failure> {
+    if options.output.is_none() && std::io::stdout().is_terminal() {
+        return Err(options::usage("write", "-o is needed, since a list of calls is not for reading on a terminal"));
+    }
     let list = text::read(&files::text(&options.file)?).map_err(|fault| Failure::input(&options.file, fault))?;
     files::write(options.output.as_deref(), &list.write()).map(|()| FINE)
 }
 
 fn read(options: &Options) -> Result<u8, Failure> {
     let list = files::list(&options.file)?;
-    files::write(options.output.as_deref(), text::write(&list).as_bytes()).map(|()| FINE)
+    files::write(options.output.as_deref(), text::write(&list, options.zone).as_bytes()).map(|()| FINE)
 }
 
 fn asks_for_help(word: &String) -> bool {

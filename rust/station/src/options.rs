@@ -1,5 +1,6 @@
 //! The command line.
 use crate::failure::Failure;
+use crate::text::Zone;
 
 /// The form of the output.
 #[derive(Clone, Copy, Debug, PartialEq, Eq)]
@@ -27,13 +28,22 @@ pub struct Options {
     pub partial: bool,
     /// The form of the output.
     pub form: Form,
+    /// The zone of the times in it.
+    pub zone: Zone,
 }
 
 impl Options {
     /// Reads the words behind a command; `known` are the options that it has.
     pub fn read(command: &str, known: &[&str], words: &[String]) -> Result<Options, Failure> {
-        let mut options =
-            Options { file: String::new(), output: None, against: None, only: None, partial: false, form: Form::Page };
+        let mut options = Options {
+            file: String::new(),
+            output: None,
+            against: None,
+            only: None,
+            partial: false,
+            form: Form::Page,
+            zone: Zone::default(),
+        };
         let mut files = Vec::new();
         let mut words = words.iter();
         while let Some(word) = words.next() {
@@ -46,6 +56,9 @@ impl Options {
             }
         }
         match <[String; 1]>::try_from(files) {
+            Ok([file]) if options.output.as_deref().is_some_and(|output| same_file(&file, output)) => {
+                Err(usage(command, &format!("{file} is read, and would be written over")))
+            }
             Ok([file]) => Ok(Options { file, ..options }),
             Err(files) => Err(usage(command, &format!("one file is needed, and {} are named", files.len()))),
         }
@@ -58,12 +71,21 @@ impl Options {
             "--against" => self.against = Some(value()?),
             "--only" => self.only = Some(value()?),
             "--partial" => self.partial = true,
+            "--zone" => {
+                self.zone = Zone::of(&value()?).map_err(|_| usage(command, "--zone takes a zone such as +01:00 or UTC"))?
+            }
             "--json" | "--csv" if self.form != Form::Page => return Err(usage(command, "--json and --csv do not go together")),
             "--json" => self.form = Form::Json,
             _ => self.form = Form::Csv,
         }
         Ok(())
     }
+}
+
+/// Whether two names are of one file that is there.
+fn same_file(first: &str, second: &str) -> bool {
+    let there = |file: &str| std::fs::canonicalize(file).ok();
+    there(first).is_some() && there(first) == there(second)
 }
 
 /// A command line that is not understood.

@@ -13,7 +13,7 @@ Runs the calls of LIST (a .calls file, or - for standard input) from a fresh reg
 figures stand beside those of REPORT, and each that differs is marked. Without it they are printed alone; as --csv
 that is a report in the form that --against reads.
 
-REPORT is a CSV file that begins with the line `figure,value` and has a figure on each line:
+REPORT is a CSV file that begins with the line `figure,value` (or with a semicolon) and has a figure on each line:
   calls, refused, refused NUMBER             all calls; those that were refused, in all and by number
   raised, updated, cleared, acknowledged,    answers of each kind; also: suppressed, not found, unauthorized,
                                              audit failed, clear without active, active limit exceeded

@@ -56,15 +56,33 @@ pub struct Raises {
     pub raises: u64,
 }
 
+/// How often something was answered, and by which call first.
+#[derive(Debug, Default, Clone, PartialEq, Eq)]
+pub struct Often {
+    /// How many calls.
+    pub calls: u64,
+    /// The place of the first of them, from 1.
+    pub first: u64,
+}
+
+impl Often {
+    fn add(&mut self, place: u64) {
+        if self.calls == 0 {
+            self.first = place;
+        }
+        self.calls += 1;
+    }
+}
+
 /// What a list's answers add up to.
 #[derive(Debug, Default, Clone, PartialEq, Eq)]
 pub struct Tally {
     /// Calls.
     pub calls: u64,
     /// Refused calls, by number.
-    pub refused: BTreeMap<u32, u64>,
+    pub refused: BTreeMap<u32, Often>,
     /// Answers, by code.
-    pub codes: BTreeMap<u8, u64>,
+    pub codes: BTreeMap<u8, Often>,
     /// Alarms expired by all calls together.
     pub expired: u64,
     /// Raises by cause, in the order in which causes first appear.
@@ -78,14 +96,14 @@ impl Tally {
     pub fn add(&mut self, call: &[u8], got: Result<&[u8], Refusal>) {
         self.calls += 1;
         match got {
-            Err(refusal) => *self.refused.entry(refusal.number()).or_default() += 1,
+            Err(refusal) => self.refused.entry(refusal.number()).or_default().add(self.calls),
             Ok(answer) => self.answered(call, answer),
         }
     }
 
     fn answered(&mut self, call: &[u8], answer: &[u8]) {
         let Some((head, body)) = Head::read(answer) else { return };
-        *self.codes.entry(head.code).or_default() += 1;
+        self.codes.entry(head.code).or_default().add(self.calls);
         match call.first() {
             Some(1) if head.code <= 2 => self.raised(head.code == 1, body),
             Some(7) => self.expired += head.number,

@@ -96,7 +96,7 @@ impl Table {
         let cells: Vec<Vec<String>> = self.rows.iter().map(shown).collect();
         let names: Vec<String> = places.iter().map(|place| self.columns[*place].name.replace('_', " ")).collect();
         let whole =
-            |i: usize, length: fn(&String) -> usize| cells.iter().chain([&names]).map(|row| length(&row[i])).max().unwrap_or(0);
+            |i: usize, length: fn(&str) -> usize| cells.iter().chain([&names]).map(|row| length(&row[i])).max().unwrap_or(0);
         let longest = (0..places.len()).map(|i| whole(i, |cell| cell.chars().count())).collect();
         let narrowest: Vec<usize> = (0..places.len()).map(|i| whole(i, longest_piece)).collect();
         let widths = narrowed(longest, &narrowest);
@@ -132,7 +132,7 @@ impl Table {
 }
 
 /// The longest piece of a cell that is not broken.
-fn longest_piece(cell: &String) -> usize {
+fn longest_piece(cell: &str) -> usize {
     let pieces = cell.split_inclusive(BREAKS).map(|piece| piece.trim_end().chars().count());
     pieces.max().unwrap_or(0).min(LONGEST_PIECE)
 }

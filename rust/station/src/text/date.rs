@@ -1,5 +1,6 @@
 //! Dates and times as people write them.
 use super::cursor::{Cursor, Fault};
+use super::zone::Zone;
 use alarm_register::{Date, Time};
 
 const FORMS: &str =
@@ -12,8 +13,7 @@ const SECOND: i64 = 1_000_000_000;
 #[derive(Clone, Copy, Debug, Default)]
 pub struct Calendar {
     day: Option<Date>,
-    /// Seconds by which clocks are ahead of UTC.
-    ahead: i64,
+    zone: Zone,
 }
 
 impl Calendar {
@@ -23,11 +23,9 @@ impl Calendar {
         Ok(())
     }
 
-    /// Reads the zone that times without one belong to.
-    pub fn zone(&mut self, line: &mut Cursor<'_>) -> Result<(), Fault> {
-        let start = line.fault("a zone is Z, UTC or hours and minutes ahead of UTC, as +01:00");
-        self.ahead = zone(line)?.ok_or(start)?;
-        Ok(())
+    /// Takes the zone that times without one belong to.
+    pub fn zone(&mut self, zone: Zone) {
+        self.zone = zone;
     }
 
     /// Reads a time, with its date where no day was given before.
@@ -46,12 +44,12 @@ impl Calendar {
             (true, None) => return Err(start.fault("this time has no date, and no line `day 2026-03-14` stands before it")),
         };
         let clock = clock(line)?;
-        let ahead = zone(line)?.unwrap_or(self.ahead);
+        let zone = Zone::read(line)?.unwrap_or(self.zone);
         if !matches!(line.peek(), None | Some(' ' | '\t' | '#')) {
             return Err(line.fault(FORMS));
         }
         let range = "this time is out of range: 1677-09-21 to 2262-04-11";
-        Time::from_date(date, clock - ahead * SECOND).ok_or_else(|| start.fault(range))
+        Time::from_date(date, clock - zone.nanoseconds()).ok_or_else(|| start.fault(range))
     }
 }
 
@@ -118,34 +116,6 @@ fn fraction(line: &mut Cursor<'_>) -> Result<i64, Fault> {
         return Err(place);
     }
     format!("{digits:0<9}").parse().map_err(|_| place)
-}
-
-/// Seconds ahead of UTC, where a zone is written.
-fn zone(line: &mut Cursor<'_>) -> Result<Option<i64>, Fault> {
-    let before = line.clone();
-    line.blanks();
-    if line.peek_word() == "UTC" {
-        line.word();
-        return Ok(Some(0));
-    }
-    if line.skip('Z') {
-        return Ok(Some(0));
-    }
-    let sign = match line.peek() {
-        Some('+') => 1,
-        Some('-') => -1,
-        _ => {
-            *line = before;
-            return Ok(None);
-        }
-    };
-    line.next();
-    let hours = number(line, 2)?;
-    let minutes = if line.skip(':') { number(line, 2)? } else { 0 };
-    if hours > 14 || minutes > 59 {
-        return Err(before.fault("no zone is that far from UTC"));
-    }
-    Ok(Some(sign * (hours * 60 + minutes) * 60))
 }
 
 #[cfg(test)]

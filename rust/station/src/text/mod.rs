@@ -6,9 +6,11 @@ mod fields;
 mod print;
 #[cfg(test)]
 mod tests;
+mod zone;
 
 pub use cursor::Fault;
 pub use print::quoted_for_page;
+pub use zone::Zone;
 
 use crate::list::List;
 use alarm_register::{check_call, Limits, Refusal};
@@ -27,14 +29,17 @@ pub fn read(text: &str) -> Result<List, Fault> {
     Ok(List { limits, answer: reading.answer, calls: reading.calls })
 }
 
-/// The text that describes a list.
-pub fn write(list: &List) -> String {
+/// The text that describes a list, with the times of a zone.
+pub fn write(list: &List, zone: Zone) -> String {
     let Limits { active, history, audit } = list.limits;
     let mut text = format!("limits active={active} history={history} audit={audit}\n");
     if let Some(length) = list.answer {
         text += &format!("answer {length}\n");
     }
-    text.extend(list.calls.iter().map(|call| print::line(call) + "\n"));
+    if zone != Zone::default() {
+        text += &format!("zone {zone}\n");
+    }
+    text.extend(list.calls.iter().map(|call| print::line(call, zone) + "\n"));
     text
 }
 
@@ -64,7 +69,8 @@ impl Reading {
             "zone" => {
                 line.word();
                 line.blanks();
-                self.calendar.zone(line)?;
+                let start = line.clone();
+                self.calendar.zone(Zone::of(line.word()).map_err(|fault| fault.at(&start))?);
                 line.end()
             }
             _ => self.call(line),

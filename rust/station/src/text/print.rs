@@ -1,11 +1,12 @@
 //! Calls, written as lines.
+use super::Zone;
 use alarm_register::{check_call, Action, Call, Clear, ListHistory, Object, PlainAction, PolicyAction, Raise, Scope};
 use std::fmt::Write;
 
-/// The line of a call: its fields by name, or its bytes where no register would take it.
-pub fn line(bytes: &[u8]) -> String {
+/// The line of a call: its fields by name, with the time of a zone, or its bytes where no register would take it.
+pub fn line(bytes: &[u8], zone: Zone) -> String {
     match (check_call(bytes), Call::read(bytes)) {
-        (Ok(()), Some(call)) => of_call(&call),
+        (Ok(()), Some(call)) => of_call(&call, zone),
         (Err(refusal), _) => format!("{} # refused: {refusal}", raw(bytes)),
         (Ok(()), None) => raw(bytes),
     }
@@ -15,15 +16,15 @@ fn raw(bytes: &[u8]) -> String {
     bytes.iter().fold("raw ".to_string(), |line, byte| line + &format!("{byte:02x}")).trim_end().to_string()
 }
 
-fn of_call(call: &Call<'_>) -> String {
+fn of_call(call: &Call<'_>, zone: Zone) -> String {
     match call {
-        Call::Raise(call) => raise(call),
-        Call::Clear(call) => clear(call),
+        Call::Raise(call) => raise(call, zone),
+        Call::Clear(call) => clear(call, zone),
         Call::Plain(PlainAction { action, time, id, authorised }) => {
-            format!("{time} {action} id={} authorised={}", word(id), yes(*authorised))
+            format!("{} {action} id={} authorised={}", zone.show(*time), word(id), yes(*authorised))
         }
-        Call::Policy(call) => policy(call),
-        Call::Expire(call) => format!("expire before {}", call.before),
+        Call::Policy(call) => policy(call, zone),
+        Call::Expire(call) => format!("expire before {}", zone.show(call.before)),
         Call::ListActive(call) => call.severity.map_or("active".to_string(), |severity| format!("active severity={severity}")),
         Call::ListHistory(ListHistory { tenant, slice }) => {
             format!("history{}", options(&[("tenant", *tenant), ("slice", *slice)]))
@@ -34,8 +35,8 @@ fn of_call(call: &Call<'_>) -> String {
     }
 }
 
-fn raise(call: &Raise<'_>) -> String {
-    let mut line = format!("{} raise id={} type={}", call.time, word(call.id), word(call.alarm_type));
+fn raise(call: &Raise<'_>, zone: Zone) -> String {
+    let mut line = format!("{} raise id={} type={}", zone.show(call.time), word(call.id), word(call.alarm_type));
     let _ = write!(line, " severity={} cause={} object={}", call.severity, word(call.cause), object(&call.object));
     line += &options(&[("tenant", call.tenant), ("slice", call.slice), ("region", call.region)]);
     line += &unless_empty("text", call.text);
@@ -45,18 +46,18 @@ fn raise(call: &Raise<'_>) -> String {
     line
 }
 
-fn clear(call: &Clear<'_>) -> String {
-    let mut line = format!("{} clear type={} cause={}", call.time, word(call.alarm_type), word(call.cause));
+fn clear(call: &Clear<'_>, zone: Zone) -> String {
+    let mut line = format!("{} clear type={} cause={}", zone.show(call.time), word(call.alarm_type), word(call.cause));
     let _ = write!(line, " object={}", object(&call.object));
     line + &options(&[("tenant", call.tenant), ("slice", call.slice), ("region", call.region)])
 }
 
-fn policy(call: &PolicyAction<'_>) -> String {
+fn policy(call: &PolicyAction<'_>, zone: Zone) -> String {
     let operation = match call.action {
         Action::Acknowledge => "acknowledge-with-policy",
         Action::Suppress => "suppress-with-policy",
     };
-    let mut line = format!("{} {operation} id={} principal={}", call.time, word(call.id), word(call.principal));
+    let mut line = format!("{} {operation} id={} principal={}", zone.show(call.time), word(call.id), word(call.principal));
     line += &options(&[("tenant", call.tenant)]);
     line += &unless_empty("reason", call.reason);
     let _ = match call.scope {

@@ -1,5 +1,5 @@
 //! The two ways between calls and their text.
-use super::{read, write};
+use super::{read, write, Zone};
 use crate::list::List;
 use alarm_register::{
     Action, Call, Clear, CountActive, Expire, Limits, ListActive, ListHistory, Object, PlainAction, PolicyAction, Raise, Scope,
@@ -50,9 +50,12 @@ fn a_list_comes_back_from_its_text() {
     let damaged: Vec<Vec<u8>> = list.calls.iter().map(|call| call[..call.len() - 1].to_vec()).collect();
     list.calls.extend(damaged);
     list.calls.push(vec![]);
-    let text = write(&list);
-    assert_eq!(read(&text).as_ref(), Ok(&list));
-    assert_eq!(write(&read(&text).unwrap()), text);
+    for zone in ["UTC", "+01:00", "-09:30"] {
+        let zone = Zone::of(zone).unwrap();
+        let text = write(&list, zone);
+        assert_eq!(read(&text).as_ref(), Ok(&list));
+        assert_eq!(write(&read(&text).unwrap(), zone), text);
+    }
 }
 
 fn fault(line: &str) -> String {
@@ -89,6 +92,8 @@ fn faults_are_told_with_line_and_column() {
         ("raw 0b0", "line 2, column 5: raw bytes"),
         ("raw zz", "line 2, column 5: nothing more was expected"),
         ("09:30 acknowledge id=a authorised=no", "line 2, column 1: this time has no date"),
+        ("zone 1h", "line 2, column 6: a zone is Z, UTC or"),
+        ("zone +15:00", "line 2, column 6: a zone is at most 14 hours"),
         ("limits active=2 history=3 audit=1", "line 2, column 1: the limits stand once"),
     ];
     for (line, said) in cases {

@@ -1,0 +1,162 @@
+//! The tables of a page, asked of a register.
+use crate::replay::{Machine, Often, Tally};
+use crate::table::{column, off_page, Cell, Column, Table};
+use crate::text::Zone;
+use alarm_register::{
+    code_name, Alarm, AuditEvent, CountActive, ListActive, ListHistory, Operation, Refusal, Summarise, Summary, TakeAudit,
+};
+
+/// The tables of a page. Everything but the answers is asked of the register itself, by operations 8 to 12.
+pub fn of(machine: &Machine, tally: &Tally, zone: Zone) -> Result<Vec<Table>, Refusal> {
+    let active = machine.look(&ListActive { severity: None }.call())?;
+    let history = machine.look(&ListHistory::default().call())?;
+    let audit = machine.look(&TakeAudit { at_most: u16::MAX }.call())?;
+    let counts = machine.look(&CountActive.call())?;
+    let summary = machine.look(&Summarise.call())?;
+    Ok(vec![
+        alarms(
+            "active",
+            "ACTIVE ALARMS",
+            [column("raised_at"), off_page("updated_at")],
+            zone,
+            ListActive::read_answer(&active).into_iter().flatten(),
+        ),
+        alarms(
+            "history",
+            "HISTORY",
+            [off_page("raised_at"), column("updated_at")],
+            zone,
+            ListHistory::read_answer(&history).into_iter().flatten(),
+        ),
+        events(tally, zone, TakeAudit::read_answer(&audit).into_iter().flatten()),
+        counted(&counts),
+        answers(tally),
+        summed(Summarise::read_answer(&summary)),
+    ])
+}
+
+/// A table of alarms. A page tells of active alarms when they were raised, and of history when each change was.
+fn alarms<'a>(name: &'static str, title: &str, times: [Column; 2], zone: Zone, alarms: impl Iterator<Item = Alarm<'a>>) -> Table {
+    let [raised_at, updated_at] = times;
+    let columns = vec![
+        raised_at,
+        updated_at,
+        off_page("cleared_at"),
+        column("severity"),
+        column("state"),
+        column("id"),
+        off_page("type"),
+        column("cause"),
+        column("object"),
+        column("tenant"),
+        column("slice"),
+        column("region"),
+        column("text"),
+        off_page("details"),
+        off_page("key"),
+    ];
+    let rows: Vec<Vec<Cell>> = alarms.map(|one| alarm(one, zone)).collect();
+    Table { name, title: format!("{title}: {}, oldest first", rows.len()), columns, rows }
+}
+
+fn alarm(alarm: Alarm<'_>, zone: Zone) -> Vec<Cell> {
+    vec![
+        Cell::of(zone.show(alarm.raised_at)),
+        Cell::of(zone.show(alarm.updated_at)),
+        Cell::maybe(alarm.cleared_at.map(|time| zone.show(time))),
+        Cell::of(alarm.severity),
+        Cell::of(alarm.state),
+        Cell::of(alarm.id),
+        Cell::of(alarm.alarm_type),
+        Cell::of(alarm.cause),
+        Cell::of(alarm.object),
+        Cell::maybe(alarm.tenant),
+        Cell::maybe(alarm.slice),
+        Cell::maybe(alarm.region),
+        Cell::of(alarm.text),
+        Cell::maybe(alarm.details.map(hexadecimal)),
+        Cell::of(alarm.key),
+    ]
+}
+
+fn hexadecimal(bytes: &[u8]) -> String {
+    bytes.iter().map(|byte| format!("{byte:02x}")).collect()
+}
+
+/// The audit trail: events that calls took out, then those that the register holds.
+fn events<'a>(tally: &Tally, zone: Zone, held: impl Iterator<Item = AuditEvent<'a>>) -> Table {
+    let columns = vec![
+        column("occurred_at"),
+        column("action"),
+        column("outcome"),
+        column("id"),
+        off_page("type"),
+        off_page("cause"),
+        column("principal"),
+        column("tenant"),
+        column("reason"),
+        off_page("scope"),
+        column("correlation"),
+        column("taken_by_call"),
+    ];
+    let taken =
+        tally.taken.iter().filter_map(|(place, record)| Some(event(AuditEvent::read(record)?, zone, Cell::Number(*place))));
+    let rows: Vec<Vec<Cell>> = taken.chain(held.map(|held| event(held, zone, Cell::None))).collect();
+    Table { name: "audit", title: format!("AUDIT TRAIL: {}, oldest first", rows.len()), columns, rows }
+}
+
+fn event(event: AuditEvent<'_>, zone: Zone, taken: Cell) -> Vec<Cell> {
+    vec![
+        Cell::of(zone.show(event.occurred_at)),
+        Cell::of(event.action),
+        Cell::of(event.outcome),
+        Cell::of(event.id),
+        Cell::of(event.alarm_type),
+        Cell::of(event.cause),
+        Cell::of(event.principal),
+        Cell::maybe(event.tenant),
+        Cell::of(event.reason),
+        Cell::of(event.scope),
+        Cell::maybe(event.correlation),
+        taken,
+    ]
+}
+
+fn counted(answer: &[u8]) -> Table {
+    let counts = CountActive::read_answer(answer).into_iter().flatten();
+    let row = |count: alarm_register::Count<'_>| {
+        vec![Cell::of(count.severity), Cell::Number(count.alarms.into()), Cell::of(count.cause)]
+    };
+    Table {
+        name: "counts",
+        title: "ACTIVE BY SEVERITY AND CAUSE".to_string(),
+        columns: vec![column("severity"), column("alarms"), column("cause")],
+        rows: counts.map(row).collect(),
+    }
+}
+
+fn answers(tally: &Tally) -> Table {
+    let row = |number: u32, said: String, often: &Often| {
+        vec![Cell::Number(often.calls), Cell::Number(number.into()), Cell::of(said), Cell::Number(often.first)]
+    };
+    let answer = |(code, often): (&u8, &Often)| row((*code).into(), code_name(*code).unwrap_or("unknown").to_string(), often);
+    let refusal =
+        |(number, often): (&u32, &Often)| row(*number, format!("refused: {}", Refusal::from_number(*number).sentence()), often);
+    let rows = tally.codes.iter().map(answer).chain(tally.refused.iter().map(refusal)).collect();
+    let columns = ["calls", "number", "answer", "first_call"].map(column).to_vec();
+    Table { name: "answers", title: "WHAT THE CALLS WERE ANSWERED".to_string(), columns, rows }
+}
+
+fn summed(summary: Option<Summary>) -> Table {
+    let columns = ["active", "worst", "readiness", "audit_stored", "audit_lost"].map(column).to_vec();
+    let row = |summary: Summary| {
+        vec![
+            Cell::Number(summary.active),
+            Cell::of(summary.worst.map_or("none", |worst| worst.name())),
+            Cell::of(summary.readiness),
+            Cell::Number(summary.successes),
+            Cell::Number(summary.failures),
+        ]
+    };
+    Table { name: "summary", title: "SUMMARY".to_string(), columns, rows: summary.map(row).into_iter().collect() }
+}
