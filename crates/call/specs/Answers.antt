@@ -1,18 +1,14 @@
 -- What the answers say: of `Got` the value and the bytes left after it, of `Bad` the number of the refusal.
 use Prim.Native.Nat.{ℕ}
-use mathlib.Core.Bool.{Bool, false, cond}
+use mathlib.Core.Bool.{cond}
 use lib.Dec.{eqb}
 use lib.ListN.{drop}
 use Rattle.octets.specs.Bytes.{Bytes}
 use Rattle.definition.specs.Limits.{shortLimit}
 use Rattle.definition.specs.Reader.{Out, got, bad}
-use Rattle.definition.specs.Value.{HeadValue, PlainValue, PolicyValue, CallValue}
+use Rattle.definition.specs.Value.{PlainValue, PolicyValue, CallValue}
 use Rattle.model.specs.Meaning.{within}
-use Rattle.model.specs.declared.OptSpan.{OptSpan}
-use Rattle.model.specs.declared.OptSpan.the-variants.{Absent, Present}
-use Rattle.call.specs.Meaning.{headValue, plainValue, meaning, HeadWithin, parsedWithin}
-use Rattle.call.specs.declared.HeadRead.{HeadRead}
-use Rattle.call.specs.declared.HeadRead.the-variants as H
+use Rattle.call.specs.Meaning.{plainValue, meaning, parsedWithin}
 use Rattle.call.specs.declared.PlainRead.{PlainRead}
 use Rattle.call.specs.declared.PlainRead.the-variants as P
 use Rattle.call.specs.declared.CallRead.{CallRead}
@@ -25,15 +21,6 @@ plainCall op = cond (eqb op 3) CallValue.acknowledge CallValue.suppress
 abbrev pub policyCall : ℕ → PolicyValue → CallValue
 policyCall op = cond (eqb op 5) CallValue.acknowledgePolicy CallValue.suppressPolicy
 
--- a region that is there and has no byte
-abbrev pub emptyRegion : OptSpan → Bool
-emptyRegion Absent = false
-emptyRegion (Present p) = eqb (p .len) 0
-
-abbrev pub headOut : Bytes → HeadRead → Out HeadValue
-headOut call (H.Got h i) = got (headValue call h) (drop i call)
-headOut call (H.Bad k) = bad k
-
 abbrev pub plainOut : Bytes → PlainRead → Out PlainValue
 plainOut call (P.Got p i) = got (plainValue call p) (drop i call)
 plainOut call (P.Bad k) = bad k
@@ -43,10 +30,6 @@ callOut call (C.Got p i) = got (meaning call p) (drop i call)
 callOut call (C.Bad k) = bad k
 
 -- ---- every part lies within the call and its limit
-
-abbrev pub headFits : Bytes → HeadRead → Type 0
-headFits call (H.Got h i) = HeadWithin call h
-headFits call (H.Bad k) = Unit
 
 abbrev pub plainFits : Bytes → PlainRead → Type 0
 plainFits call (P.Got p i) = within call shortLimit (p .id)

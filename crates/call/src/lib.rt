@@ -4,42 +4,22 @@ use fields::NumRead;
 use fields::OptRead;
 use fields::Rule;
 use fields::TextRead;
-use model::KeyFields;
 use model::OptSpan;
 use model::Record;
 use model::Span;
-use object::KeyRead;
 use policy::Policy;
 use policy::PolicyRead;
+use raise::Clear;
+use raise::ClearRead;
+use raise::Raise;
+use raise::RaiseRead;
 ghost use mathlib.Core.Path.{_≡_};
 ghost use lib.ListN.{drop};
 ghost use Rattle.definition.specs.Reader.{into, number};
 ghost use Rattle.definition.specs.Value.{CallValue};
-ghost use Rattle.definition.specs.Parse.{head, body, raiseFields, clearFields, plainFields, policyFields, severityOrAll, historyFields, fieldsOf, parseCall};
-ghost use Rattle.model.specs.Meaning.{keyValue, KeyWithin};
-ghost use Rattle.call.specs.Meaning.{headValue, HeadWithin, meaning, parsedWithin};
-ghost use Rattle.call.specs.Answers.{emptyRegion, headOut, headFits, plainOut, plainFits, plainCall, policyCall, callOut, callFits};
-
-// How a raise begins.
-pub struct Head {
-    pub time: u64,
-    pub id: Span,
-    pub alarm_type: Span,
-    pub severity: u8,
-}
-
-pub struct Raise {
-    pub head: Head,
-    pub key: KeyFields,
-    pub text: Span,
-    pub details: OptSpan,
-}
-
-pub struct Clear {
-    pub time: u64,
-    pub alarm_type: Span,
-    pub key: KeyFields,
-}
+ghost use Rattle.definition.specs.Parse.{raiseFields, clearFields, plainFields, policyFields, severityOrAll, historyFields, fieldsOf, parseCall};
+ghost use Rattle.call.specs.Meaning.{meaning, parsedWithin};
+ghost use Rattle.call.specs.Answers.{plainOut, plainFits, plainCall, policyCall, callOut, callFits};
 
 // An acknowledgement or a suppression without a policy. The flag is 0 or 1.
 pub struct Plain {
@@ -66,11 +46,6 @@ pub enum Parsed {
 }
 
 // What a reader answers: a value and the place after it, or the number of a refusal.
-enum HeadRead {
-    Got(Head, usize),
-    Bad(u8),
-}
-
 enum PlainRead {
     Got(Plain, usize),
     Bad(u8),
@@ -81,146 +56,23 @@ enum CallRead {
     Bad(u8),
 }
 
-// ---- 1 raise
+// ---- 1 raise, 2 clear
 
-fn head_at(call: &[u8], at: usize) -> HeadRead
-    ensures { λ r. ⌜ (headOut (now (call .entry)) r ≡ head (drop at (now (call .entry)))) × headFits (now (call .entry)) r ⌝ }
-{
-    let mut i = 0;
-    let time = match fields::number_at(call, at, 8) {
-        NumRead::Bad(k) => return HeadRead::Bad(k),
-        NumRead::Got(x, j) => {
-            i = j;
-            x
-        }
-    };
-    let id = match fields::text_at(call, i, Record::SHORT) {
-        TextRead::Bad(k) => return HeadRead::Bad(k),
-        TextRead::Got(q, j) => {
-            i = j;
-            q
-        }
-    };
-    let alarm_type = match fields::text_at(call, i, Record::SHORT) {
-        TextRead::Bad(k) => return HeadRead::Bad(k),
-        TextRead::Got(q, j) => {
-            i = j;
-            q
-        }
-    };
-    match fields::choice_at(call, i, 0, 5) {
-        ByteRead::Bad(k) => HeadRead::Bad(k),
-        ByteRead::Got(severity, j) => {
-            HeadRead::Got(
-                Head {
-                    time: time,
-                    id: id,
-                    alarm_type: alarm_type,
-                    severity: severity,
-                },
-                j,
-            )
-        }
-    }
-}
-
-// Whether a region is there and is empty.
-fn is_empty(region: OptSpan) -> bool
-    ensures { λ r. ⌜ r ≡ emptyRegion region ⌝ }
-{
-    match region {
-        OptSpan::Absent => false,
-        OptSpan::Present(p) => p.len == 0,
-    }
-}
-
-// The text and the details, after the key.
-fn body_at(call: &[u8], at: usize, h: Head, y: KeyFields) -> CallRead
-    requires { ⌜ HeadWithin (now call) h × KeyWithin (now call) y ⌝ }
-    ensures { λ r. ⌜ (callOut (now (call .entry)) r ≡ into CallValue.raise (body (headValue (now (call .entry)) h) (keyValue (now (call .entry)) y)) (drop at (now (call .entry)))) × callFits (now (call .entry)) r ⌝ }
-{
-    let mut i = 0;
-    let text = match fields::text_at(call, at, Record::TEXT) {
-        TextRead::Bad(k) => return CallRead::Bad(k),
-        TextRead::Got(q, j) => {
-            i = j;
-            q
-        }
-    };
-    match fields::option_at(call, i, Record::DETAILS, Rule::Blob) {
-        OptRead::Bad(k) => CallRead::Bad(k),
-        OptRead::Got(details, j) => {
-            CallRead::Got(
-                Parsed::Raise(Raise {
-                    head: h,
-                    key: y,
-                    text: text,
-                    details: details,
-                }),
-                j,
-            )
-        }
-    }
-}
-
-fn raise_at(call: &[u8], at: usize) -> CallRead
+fn raise_call_at(call: &[u8], at: usize) -> CallRead
     ensures { λ r. ⌜ (callOut (now (call .entry)) r ≡ into CallValue.raise raiseFields (drop at (now (call .entry)))) × callFits (now (call .entry)) r ⌝ }
 {
-    let mut i = 0;
-    let h = match head_at(call, at) {
-        HeadRead::Bad(k) => return CallRead::Bad(k),
-        HeadRead::Got(q, j) => {
-            i = j;
-            q
-        }
-    };
-    let y = match object::key_at(call, i) {
-        KeyRead::Bad(k) => return CallRead::Bad(k),
-        KeyRead::Got(q, j) => {
-            i = j;
-            q
-        }
-    };
-    let p = y.places;
-    let region = p.region;
-    if is_empty(region) {
-        return CallRead::Bad(29);
+    match raise::raise_at(call, at) {
+        RaiseRead::Bad(k) => CallRead::Bad(k),
+        RaiseRead::Got(q, j) => CallRead::Got(Parsed::Raise(q), j),
     }
-    body_at(call, i, h, y)
 }
 
-// ---- 2 clear
-
-fn clear_at(call: &[u8], at: usize) -> CallRead
+fn clear_call_at(call: &[u8], at: usize) -> CallRead
     ensures { λ r. ⌜ (callOut (now (call .entry)) r ≡ into CallValue.clear clearFields (drop at (now (call .entry)))) × callFits (now (call .entry)) r ⌝ }
 {
-    let mut i = 0;
-    let time = match fields::number_at(call, at, 8) {
-        NumRead::Bad(k) => return CallRead::Bad(k),
-        NumRead::Got(x, j) => {
-            i = j;
-            x
-        }
-    };
-    let alarm_type = match fields::text_at(call, i, Record::SHORT) {
-        TextRead::Bad(k) => return CallRead::Bad(k),
-        TextRead::Got(q, j) => {
-            i = j;
-            q
-        }
-    };
-    match object::key_at(call, i) {
-        KeyRead::Bad(k) => CallRead::Bad(k),
-        KeyRead::Got(key, j) => {
-            CallRead::Got(
-                Parsed::Clear(Clear {
-                    time: time,
-                    alarm_type: alarm_type,
-                    key: key,
-                }),
-                j,
-            )
-        }
+    match raise::clear_at(call, at) {
+        ClearRead::Bad(k) => CallRead::Bad(k),
+        ClearRead::Got(q, j) => CallRead::Got(Parsed::Clear(q), j),
     }
 }
 
@@ -365,8 +217,8 @@ fn fields_at(call: &[u8], at: usize, op: u8) -> CallRead
     ensures { λ r. ⌜ (callOut (now (call .entry)) r ≡ fieldsOf op (drop at (now (call .entry)))) × callFits (now (call .entry)) r ⌝ }
 {
     match op {
-        1 => raise_at(call, at),
-        2 => clear_at(call, at),
+        1 => raise_call_at(call, at),
+        2 => clear_call_at(call, at),
         3 => plain_call_at(call, at, 3),
         4 => plain_call_at(call, at, 4),
         5 => policy_call_at(call, at, 5),

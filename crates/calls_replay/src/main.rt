@@ -1,10 +1,8 @@
 // Reads calls from the standard input, each behind its length in four bytes, and writes a line for each: what the parser says of it.
 // The files `stdin` and `stdout` of this crate are made by `python3 tests/calls/make.py`, which reads the calls by document 01 in a way
 // of its own; tests/calls/reading.py says how a line is written.
-use call::Clear;
 use call::Parsed;
 use call::Plain;
-use call::Raise;
 use libc::STDIN_FILENO;
 use libc::STDOUT_FILENO;
 use model::AffectedObject;
@@ -15,6 +13,8 @@ use model::Places;
 use model::Span;
 use policy::Policy;
 use policy::Scope;
+use raise::Clear;
+use raise::Raise;
 
 // ---- the words of a line: a blank, and a number or a string
 

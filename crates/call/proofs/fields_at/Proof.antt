@@ -7,11 +7,11 @@ use Rattle.call.proofs.fields_at.Tie as tie
 
 returns : tie.Need-returns
 unfolding fieldsOf
-returns c = (rw (c .before .match .keys1) (c .raise-at .ensures .0), c .raise-at .ensures .1)
+returns c = (rw (c .before .match .keys1) (c .raise-call-at .ensures .0), c .raise-call-at .ensures .1)
 
 returns-2 : tie.Need-returns-2
 unfolding fieldsOf
-returns-2 c = (rw (c .before .match .keys2) (c .clear-at .ensures .0), c .clear-at .ensures .1)
+returns-2 c = (rw (c .before .match .keys2) (c .clear-call-at .ensures .0), c .clear-call-at .ensures .1)
 
 returns-3 : tie.Need-returns-3
 unfolding fieldsOf

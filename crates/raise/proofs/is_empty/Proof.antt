@@ -1,9 +1,9 @@
 -- `is_empty` meets its contract: a region is absent, or has a length.
-use Rattle.call.specs.Answers.{emptyRegion}
+use Rattle.raise.specs.Answers.{emptyRegion}
 use mathlib.Core.Path.{sym, ap}
 use borrow.Author.Needs.{needs}
-use Rattle.call.proofs.is_empty.Statement.{statement}
-use Rattle.call.proofs.is_empty.Tie as tie
+use Rattle.raise.proofs.is_empty.Statement.{statement}
+use Rattle.raise.proofs.is_empty.Tie as tie
 
 returns : tie.Need-returns
 returns c = search needs

@@ -5,8 +5,8 @@ use Rattle.definition.specs.Parse.{head}
 use Rattle.fields.specs.Answers.{numOut, numFits, byteOut, byteFits, textOut, textFits}
 use Rattle.fields.specs.ReaderLaws.{read}
 use borrow.Author.Needs.{needs}
-use Rattle.call.proofs.head_at.Statement.{statement}
-use Rattle.call.proofs.head_at.Tie as tie
+use Rattle.raise.proofs.head_at.Statement.{statement}
+use Rattle.raise.proofs.head_at.Tie as tie
 
 returns : tie.Need-returns
 unfolding head _>>=_

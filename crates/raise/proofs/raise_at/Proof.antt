@@ -1,26 +1,26 @@
 -- `raise_at` meets its contract: head and key, a region that has a byte, and then text and details.
 use Rattle.definition.specs.Limits.{regionLimit}
-use Rattle.definition.specs.Reader.{_>>=_, into}
-use Rattle.definition.specs.Parse.{head, raiseFields}
+use Rattle.definition.specs.Reader.{_>>=_}
+use Rattle.definition.specs.Parse.{raiseFields}
 use Rattle.fields.specs.ReaderLaws.{read}
 use Rattle.object.specs.Answers.{keyOut, keyFits}
-use Rattle.call.specs.Answers.{headOut, headFits}
+use Rattle.raise.specs.Answers.{headOut, headFits}
 use mathlib.Core.Path.{sym, ap, _∙_}
 use mathlib.Core.Bool.{not}
-use Rattle.call.specs.WholeLaws.{region-named}
+use Rattle.raise.specs.RegionLaws.{region-named}
 use borrow.Author.Needs.{needs}
-use Rattle.call.proofs.raise_at.Statement.{statement}
-use Rattle.call.proofs.raise_at.Tie as tie
+use Rattle.raise.proofs.raise_at.Statement.{statement}
+use Rattle.raise.proofs.raise_at.Tie as tie
 
 returns : tie.Need-returns
-unfolding into raiseFields _>>=_
+unfolding raiseFields _>>=_
 returns c =
     let s = c .before .before .before .before .before .args .call .now in
     let head = read (headOut s) (headFits s) (c .before .before .before .head-at .ensures) (c .before .k .given .1) in
     (rw (head .0), tt)
 
 returns-2 : tie.Need-returns-2
-unfolding into raiseFields _>>=_
+unfolding raiseFields _>>=_
 returns-2 c =
     let c1 = c .before .before .before .before in
     let s = c1 .before .before .before .before .before .args .call .now in
@@ -29,7 +29,7 @@ returns-2 c =
     (rw (head .0, key .0), tt)
 
 returns-3 : tie.Need-returns-3
-unfolding into raiseFields _>>=_
+unfolding raiseFields _>>=_
 returns-3 c =
     let c2 = c .before .before .before in
     let c1 = c2 .before .before .before .before in
@@ -49,7 +49,7 @@ body-at-requires c κs =
     (head .1, key .1)
 
 returns-4 : tie.Need-returns-4
-unfolding into raiseFields _>>=_
+unfolding raiseFields _>>=_
 returns-4 c =
     let c2 = c .before .before .before .before in
     let c1 = c2 .before .before .before .before in

@@ -1,23 +1,23 @@
 -- `clear_at` meets its contract: time, type and key.
 use Rattle.definition.specs.Limits.{shortLimit}
-use Rattle.definition.specs.Reader.{_>>=_, into}
+use Rattle.definition.specs.Reader.{_>>=_}
 use Rattle.definition.specs.Parse.{clearFields}
 use Rattle.fields.specs.Answers.{numOut, numFits, textOut, textFits}
 use Rattle.fields.specs.ReaderLaws.{read}
 use Rattle.object.specs.Answers.{keyOut, keyFits}
 use borrow.Author.Needs.{needs}
-use Rattle.call.proofs.clear_at.Statement.{statement}
-use Rattle.call.proofs.clear_at.Tie as tie
+use Rattle.raise.proofs.clear_at.Statement.{statement}
+use Rattle.raise.proofs.clear_at.Tie as tie
 
 returns : tie.Need-returns
-unfolding into clearFields _>>=_
+unfolding clearFields _>>=_
 returns c =
     let s = c .before .before .before .before .before .args .call .now in
     let time = read (numOut s) (numFits s 8) (c .before .before .before .number-at .ensures) (c .before .k .given .1) in
     (rw (time .0), tt)
 
 returns-2 : tie.Need-returns-2
-unfolding into clearFields _>>=_
+unfolding clearFields _>>=_
 returns-2 c =
     let c1 = c .before .before .before .before in
     let s = c1 .before .before .before .before .before .args .call .now in
@@ -26,7 +26,7 @@ returns-2 c =
     (rw (time .0, type .0), tt)
 
 returns-3 : tie.Need-returns-3
-unfolding into clearFields _>>=_
+unfolding clearFields _>>=_
 returns-3 c =
     let c2 = c .before .before .before .before in
     let c1 = c2 .before .before .before .before in
@@ -37,7 +37,7 @@ returns-3 c =
     (rw (time .0, type .0, key .0), tt)
 
 returns-4 : tie.Need-returns-4
-unfolding into clearFields _>>=_
+unfolding clearFields _>>=_
 returns-4 c =
     let c2 = c .before .before .before .before in
     let c1 = c2 .before .before .before .before in

@@ -1,22 +1,22 @@
 -- `body_at` meets its contract: text and details.
 use Rattle.definition.specs.Limits.{textLimit, detailsLimit}
-use Rattle.definition.specs.Reader.{_>>=_, into}
-use Rattle.definition.specs.Parse.{head, body}
+use Rattle.definition.specs.Reader.{_>>=_}
+use Rattle.definition.specs.Parse.{body}
 use Rattle.fields.specs.Answers.{textOut, textFits, optOut, optFits}
 use Rattle.fields.specs.ReaderLaws.{read}
 use borrow.Author.Needs.{needs}
-use Rattle.call.proofs.body_at.Statement.{statement}
-use Rattle.call.proofs.body_at.Tie as tie
+use Rattle.raise.proofs.body_at.Statement.{statement}
+use Rattle.raise.proofs.body_at.Tie as tie
 
 returns : tie.Need-returns
-unfolding into body _>>=_
+unfolding body _>>=_
 returns c =
     let s = c .before .before .before .before .before .args .call .now in
     let text = read (textOut s) (textFits s textLimit) (c .before .before .before .text-at .ensures) (c .before .k .given .1) in
     (rw (text .0), tt)
 
 returns-2 : tie.Need-returns-2
-unfolding into body _>>=_
+unfolding body _>>=_
 returns-2 c =
     let c1 = c .before .before .before .before in
     let s = c1 .before .before .before .before .before .args .call .now in
@@ -25,7 +25,7 @@ returns-2 c =
     (rw (text .0, details .0), tt)
 
 returns-3 : tie.Need-returns-3
-unfolding into body _>>=_
+unfolding body _>>=_
 returns-3 c =
     let c1 = c .before .before .before .before in
     let s = c1 .before .before .before .before .before .args .call .now in
