@@ -1,18 +1,19 @@
 -- What the answers say: of `Got` the value and the bytes left after it, of `Bad` the number of the refusal.
 use Prim.Native.Nat.{ℕ}
+use mathlib.Core.Path.{_≡_}
 use mathlib.Core.Bool.{cond}
 use lib.Dec.{eqb}
 use lib.ListN.{drop}
 use Rattle.octets.specs.Bytes.{Bytes}
 use Rattle.definition.specs.Limits.{shortLimit}
-use Rattle.definition.specs.Reader.{Out, got, bad}
+use Rattle.definition.specs.Reader.{Out, got, bad, Reader}
 use Rattle.definition.specs.Value.{PlainValue, PolicyValue, CallValue}
+use Rattle.definition.specs.Parse.{whole}
 use Rattle.model.specs.Meaning.{within}
 use Rattle.call.specs.Meaning.{plainValue, meaning, parsedWithin}
 use Rattle.call.specs.declared.PlainRead.{PlainRead}
 use Rattle.call.specs.declared.PlainRead.the-variants as P
-use Rattle.call.specs.declared.CallRead.{CallRead}
-use Rattle.call.specs.declared.CallRead.the-variants as C
+use Rattle.call.specs.declared.Parsed.{Parsed}
 
 -- operations 3 and 4, and 5 and 6
 abbrev pub plainCall : ℕ → PlainValue → CallValue
@@ -25,16 +26,18 @@ abbrev pub plainOut : Bytes → PlainRead → Out PlainValue
 plainOut call (P.Got p i) = got (plainValue call p) (drop i call)
 plainOut call (P.Bad k) = bad k
 
-abbrev pub callOut : Bytes → CallRead → Out CallValue
-callOut call (C.Got p i) = got (meaning call p) (drop i call)
-callOut call (C.Bad k) = bad k
-
 -- ---- every part lies within the call and its limit
 
 abbrev pub plainFits : Bytes → PlainRead → Type 0
 plainFits call (P.Got p i) = within call shortLimit (p .id)
 plainFits call (P.Bad k) = Unit
 
-abbrev pub callFits : Bytes → CallRead → Type 0
-callFits call (C.Got p i) = parsedWithin call p
-callFits call (C.Bad k) = Unit
+-- ---- what is answered of a whole call
+
+-- the fields mean v and end at a place: the answer is v, unless bytes are left over
+abbrev pub Ends : Bytes → CallValue → ℕ → Parsed → Type 0
+Ends call v at r = (meaning call r ≡ whole (got v (drop at call))) × parsedWithin call r
+
+-- the answer is what the fields behind the operation's byte say
+abbrev pub Says : Bytes → Reader CallValue → Parsed → Type 0
+Says call fields r = (meaning call r ≡ whole (fields (drop 1 call))) × parsedWithin call r

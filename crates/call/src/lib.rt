@@ -18,8 +18,9 @@ ghost use lib.ListN.{drop};
 ghost use Rattle.definition.specs.Reader.{into, number};
 ghost use Rattle.definition.specs.Value.{CallValue};
 ghost use Rattle.definition.specs.Parse.{raiseFields, clearFields, plainFields, policyFields, severityOrAll, historyFields, fieldsOf, parseCall};
+ghost use Rattle.fields.specs.Answers.{byteOut};
 ghost use Rattle.call.specs.Meaning.{meaning, parsedWithin};
-ghost use Rattle.call.specs.Answers.{plainOut, plainFits, plainCall, policyCall, callOut, callFits};
+ghost use Rattle.call.specs.Answers.{plainOut, plainFits, plainCall, policyCall, Ends, Says};
 
 // An acknowledgement or a suppression without a policy. The flag is 0 or 1.
 pub struct Plain {
@@ -51,28 +52,36 @@ enum PlainRead {
     Bad(u8),
 }
 
-enum CallRead {
-    Got(Parsed, usize),
-    Bad(u8),
+// ---- the call's end
+
+// A call whose fields end at a place: nothing may come after.
+fn finished(call: &[u8], at: usize, p: Parsed) -> Parsed
+    requires { ⌜ parsedWithin (now call) p ⌝ }
+    ensures { λ r. ⌜ Ends (now (call .entry)) (meaning (now (call .entry)) p) at r ⌝ }
+{
+    if at < call.len() {
+        return Parsed::Refused(24);
+    }
+    p
 }
 
 // ---- 1 raise, 2 clear
 
-fn raise_call_at(call: &[u8], at: usize) -> CallRead
-    ensures { λ r. ⌜ (callOut (now (call .entry)) r ≡ into CallValue.raise raiseFields (drop at (now (call .entry)))) × callFits (now (call .entry)) r ⌝ }
+fn raise_call(call: &[u8]) -> Parsed
+    ensures { λ r. ⌜ Says (now (call .entry)) (into CallValue.raise raiseFields) r ⌝ }
 {
-    match raise::raise_at(call, at) {
-        RaiseRead::Bad(k) => CallRead::Bad(k),
-        RaiseRead::Got(q, j) => CallRead::Got(Parsed::Raise(q), j),
+    match raise::raise_at(call, 1) {
+        RaiseRead::Bad(k) => Parsed::Refused(k),
+        RaiseRead::Got(q, j) => finished(call, j, Parsed::Raise(q)),
     }
 }
 
-fn clear_call_at(call: &[u8], at: usize) -> CallRead
-    ensures { λ r. ⌜ (callOut (now (call .entry)) r ≡ into CallValue.clear clearFields (drop at (now (call .entry)))) × callFits (now (call .entry)) r ⌝ }
+fn clear_call(call: &[u8]) -> Parsed
+    ensures { λ r. ⌜ Says (now (call .entry)) (into CallValue.clear clearFields) r ⌝ }
 {
-    match raise::clear_at(call, at) {
-        ClearRead::Bad(k) => CallRead::Bad(k),
-        ClearRead::Got(q, j) => CallRead::Got(Parsed::Clear(q), j),
+    match raise::clear_at(call, 1) {
+        ClearRead::Bad(k) => Parsed::Refused(k),
+        ClearRead::Got(q, j) => finished(call, j, Parsed::Clear(q)),
     }
 }
 
@@ -112,124 +121,135 @@ fn plain_at(call: &[u8], at: usize) -> PlainRead
 }
 
 // The operation is 3, or it is 4.
-fn plain_call_at(call: &[u8], at: usize, op: u8) -> CallRead
-    ensures { λ r. ⌜ (callOut (now (call .entry)) r ≡ into (plainCall op) plainFields (drop at (now (call .entry)))) × callFits (now (call .entry)) r ⌝ }
+fn plain_call(call: &[u8], op: u8) -> Parsed
+    ensures { λ r. ⌜ Says (now (call .entry)) (into (plainCall op) plainFields) r ⌝ }
 {
     let mut i = 0;
-    let p = match plain_at(call, at) {
-        PlainRead::Bad(k) => return CallRead::Bad(k),
+    let p = match plain_at(call, 1) {
+        PlainRead::Bad(k) => return Parsed::Refused(k),
         PlainRead::Got(q, j) => {
             i = j;
             q
         }
     };
     match op {
-        3 => CallRead::Got(Parsed::Acknowledge(p), i),
-        _ => CallRead::Got(Parsed::Suppress(p), i),
+        3 => finished(call, i, Parsed::Acknowledge(p)),
+        _ => finished(call, i, Parsed::Suppress(p)),
     }
 }
 
 // The operation is 5, or it is 6.
-fn policy_call_at(call: &[u8], at: usize, op: u8) -> CallRead
-    ensures { λ r. ⌜ (callOut (now (call .entry)) r ≡ into (policyCall op) policyFields (drop at (now (call .entry)))) × callFits (now (call .entry)) r ⌝ }
+fn policy_call(call: &[u8], op: u8) -> Parsed
+    ensures { λ r. ⌜ Says (now (call .entry)) (into (policyCall op) policyFields) r ⌝ }
 {
     let mut i = 0;
-    let p = match policy::policy_at(call, at) {
-        PolicyRead::Bad(k) => return CallRead::Bad(k),
+    let p = match policy::policy_at(call, 1) {
+        PolicyRead::Bad(k) => return Parsed::Refused(k),
         PolicyRead::Got(q, j) => {
             i = j;
             q
         }
     };
     match op {
-        5 => CallRead::Got(Parsed::AcknowledgePolicy(p), i),
-        _ => CallRead::Got(Parsed::SuppressPolicy(p), i),
+        5 => finished(call, i, Parsed::AcknowledgePolicy(p)),
+        _ => finished(call, i, Parsed::SuppressPolicy(p)),
     }
 }
 
 // ---- 7 expire, 8 active list, 9 history, 12 take audit
 
-fn expire_at(call: &[u8], at: usize) -> CallRead
-    ensures { λ r. ⌜ (callOut (now (call .entry)) r ≡ into CallValue.expire (number 8) (drop at (now (call .entry)))) × callFits (now (call .entry)) r ⌝ }
+fn expire_call(call: &[u8]) -> Parsed
+    ensures { λ r. ⌜ Says (now (call .entry)) (into CallValue.expire (number 8)) r ⌝ }
 {
-    match fields::number_at(call, at, 8) {
-        NumRead::Bad(k) => CallRead::Bad(k),
-        NumRead::Got(cutoff, j) => CallRead::Got(Parsed::Expire(cutoff), j),
+    match fields::number_at(call, 1, 8) {
+        NumRead::Bad(k) => Parsed::Refused(k),
+        NumRead::Got(cutoff, j) => finished(call, j, Parsed::Expire(cutoff)),
     }
 }
 
-fn active_at(call: &[u8], at: usize) -> CallRead
-    ensures { λ r. ⌜ (callOut (now (call .entry)) r ≡ into CallValue.active severityOrAll (drop at (now (call .entry)))) × callFits (now (call .entry)) r ⌝ }
+// A severity, or 255 for all.
+fn severity_at(call: &[u8], at: usize) -> ByteRead
+    ensures { λ r. ⌜ byteOut (now (call .entry)) r ≡ severityOrAll (drop at (now (call .entry))) ⌝ }
 {
     let mut i = 0;
     let v = match fields::number_at(call, at, 1) {
-        NumRead::Bad(k) => return CallRead::Bad(k),
+        NumRead::Bad(k) => return ByteRead::Bad(k),
         NumRead::Got(x, j) => {
             i = j;
             x as u8
         }
     };
     if v <= 5 {
-        return CallRead::Got(Parsed::Active(v), i);
+        return ByteRead::Got(v, i);
     }
     if v == 255 {
-        return CallRead::Got(Parsed::Active(v), i);
+        return ByteRead::Got(v, i);
     }
-    CallRead::Bad(25)
+    ByteRead::Bad(25)
 }
 
-fn history_at(call: &[u8], at: usize) -> CallRead
-    ensures { λ r. ⌜ (callOut (now (call .entry)) r ≡ historyFields (drop at (now (call .entry)))) × callFits (now (call .entry)) r ⌝ }
+fn active_call(call: &[u8]) -> Parsed
+    ensures { λ r. ⌜ Says (now (call .entry)) (into CallValue.active severityOrAll) r ⌝ }
+{
+    match severity_at(call, 1) {
+        ByteRead::Bad(k) => Parsed::Refused(k),
+        ByteRead::Got(v, j) => finished(call, j, Parsed::Active(v)),
+    }
+}
+
+fn history_call(call: &[u8]) -> Parsed
+    ensures { λ r. ⌜ Says (now (call .entry)) historyFields r ⌝ }
 {
     let mut i = 0;
-    let tenant = match fields::option_at(call, at, Record::SHORT, Rule::Text) {
-        OptRead::Bad(k) => return CallRead::Bad(k),
+    let tenant = match fields::option_at(call, 1, Record::SHORT, Rule::Text) {
+        OptRead::Bad(k) => return Parsed::Refused(k),
         OptRead::Got(q, j) => {
             i = j;
             q
         }
     };
     match fields::option_at(call, i, Record::SHORT, Rule::Text) {
-        OptRead::Bad(k) => CallRead::Bad(k),
-        OptRead::Got(slice, j) => CallRead::Got(
+        OptRead::Bad(k) => Parsed::Refused(k),
+        OptRead::Got(slice, j) => finished(
+            call,
+            j,
             Parsed::History {
                 tenant: tenant,
                 slice: slice,
             },
-            j,
         ),
     }
 }
 
-fn take_audit_at(call: &[u8], at: usize) -> CallRead
-    ensures { λ r. ⌜ (callOut (now (call .entry)) r ≡ into CallValue.takeAudit (number 2) (drop at (now (call .entry)))) × callFits (now (call .entry)) r ⌝ }
+fn take_audit_call(call: &[u8]) -> Parsed
+    ensures { λ r. ⌜ Says (now (call .entry)) (into CallValue.takeAudit (number 2)) r ⌝ }
 {
-    match fields::number_at(call, at, 2) {
-        NumRead::Bad(k) => CallRead::Bad(k),
-        NumRead::Got(n, j) => CallRead::Got(Parsed::TakeAudit(n as u16), j),
+    match fields::number_at(call, 1, 2) {
+        NumRead::Bad(k) => Parsed::Refused(k),
+        NumRead::Got(n, j) => finished(call, j, Parsed::TakeAudit(n as u16)),
     }
 }
 
 // ---- the whole call
 
 // The fields of an operation.
-fn fields_at(call: &[u8], at: usize, op: u8) -> CallRead
-    ensures { λ r. ⌜ (callOut (now (call .entry)) r ≡ fieldsOf op (drop at (now (call .entry)))) × callFits (now (call .entry)) r ⌝ }
+fn operation(call: &[u8], op: u8) -> Parsed
+    ensures { λ r. ⌜ Says (now (call .entry)) (fieldsOf op) r ⌝ }
 {
     match op {
-        1 => raise_call_at(call, at),
-        2 => clear_call_at(call, at),
-        3 => plain_call_at(call, at, 3),
-        4 => plain_call_at(call, at, 4),
-        5 => policy_call_at(call, at, 5),
-        6 => policy_call_at(call, at, 6),
-        7 => expire_at(call, at),
-        8 => active_at(call, at),
-        9 => history_at(call, at),
-        10 => CallRead::Got(Parsed::Counts, at),
-        11 => CallRead::Got(Parsed::Summary, at),
-        12 => take_audit_at(call, at),
-        _ => CallRead::Bad(23),
+        1 => raise_call(call),
+        2 => clear_call(call),
+        3 => plain_call(call, 3),
+        4 => plain_call(call, 4),
+        5 => policy_call(call, 5),
+        6 => policy_call(call, 6),
+        7 => expire_call(call),
+        8 => active_call(call),
+        9 => history_call(call),
+        10 => finished(call, 1, Parsed::Counts),
+        11 => finished(call, 1, Parsed::Summary),
+        12 => take_audit_call(call),
+        _ => Parsed::Refused(23),
     }
 }
 
@@ -240,14 +260,5 @@ pub fn parse(call: &[u8]) -> Parsed
     if call.len() == 0 {
         return Parsed::Refused(23);
     }
-    match fields_at(call, 1, call[0]) {
-        CallRead::Bad(k) => Parsed::Refused(k),
-        CallRead::Got(p, i) => {
-            if i < call.len() {
-                Parsed::Refused(24)
-            } else {
-                p
-            }
-        }
-    }
+    operation(call, call[0])
 }
