@@ -1,3 +1,4 @@
 pub mod Wrote
+pub mod Lent
 pub mod Stretches
 pub mod Cases

@@ -17,9 +17,9 @@ raised call time id type severity about text details =
       details = optPart call details;
     }
 
-pub record RaisedWithin (call : Bytes) (i t : Span) (k : KeyFields) (x : Span) (d : OptSpan) : Type 0 where
-  pub id : within call shortLimit i
-  pub type : within call shortLimit t
-  pub about : KeyWithin call k
-  pub text : within call textLimit x
-  pub details : optWithin call detailsLimit d
+pub record RaisedWithin (call : Bytes) (idSpan typeSpan : Span) (keyFields : KeyFields) (textSpan : Span) (detailsSpan : OptSpan) : Type 0 where
+  pub id : within call shortLimit idSpan
+  pub type : within call shortLimit typeSpan
+  pub about : KeyWithin call keyFields
+  pub text : within call textLimit textSpan
+  pub details : optWithin call detailsLimit detailsSpan

@@ -3,7 +3,7 @@ use mathlib.Core.Path.{ap, _∙_}
 use Rattle.octets.specs.Bytes.{Bytes, splice}
 use Rattle.definition.specs.Slot.{stringBytes}
 use Rattle.model.specs.Meaning.{causePart}
-use Rattle.build.proofs.Stretches.{past-length, string-behind}
+use Rattle.build.proofs.Lent.{past-length, string-behind}
 use borrow.Author.Needs.{needs}
 use Rattle.build.proofs.about.cause_into.Statement.{statement}
 use Rattle.build.proofs.about.cause_into.Tie as tie

@@ -5,7 +5,7 @@ use Prim.Native.Nat.{suc}
 use Rattle.definition.specs.Record.{short}
 use Rattle.definition.specs.WriteLaws.{length-string}
 use Rattle.model.specs.Meaning.{part}
-use Rattle.build.proofs.Stretches.{object-wrote}
+use Rattle.build.proofs.Lent.{object-wrote}
 use borrow.Author.Needs.{needs}
 use Rattle.build.proofs.about.pair_into.Statement.{statement}
 use Rattle.build.proofs.about.pair_into.Tie as tie

@@ -2,7 +2,7 @@
 use Rattle.octets.specs.Bytes.{zeros}
 use Rattle.octets.specs.NumberLaws.{length-zeros}
 use Rattle.model.specs.Meaning.{part}
-use Rattle.build.proofs.Stretches.{object-wrote}
+use Rattle.build.proofs.Lent.{object-wrote}
 use borrow.Author.Needs.{needs}
 use Rattle.build.proofs.about.single_into.Statement.{statement}
 use Rattle.build.proofs.about.single_into.Tie as tie

@@ -3,7 +3,7 @@ use Rattle.definition.specs.Slot.{option}
 use Rattle.definition.specs.Record.{short}
 use Rattle.definition.specs.RecordLaws.{is-place}
 use Rattle.model.specs.Meaning.{part, optPart}
-use Rattle.build.proofs.Stretches.{object-wrote}
+use Rattle.build.proofs.Lent.{object-wrote}
 use borrow.Author.Needs.{needs}
 use Rattle.build.proofs.about.store_into.Statement.{statement}
 use Rattle.build.proofs.about.store_into.Tie as tie

@@ -2,7 +2,7 @@
 use mathlib.Core.List.{_∷_}
 use Rattle.octets.specs.Bytes.{Bytes, splice}
 use Rattle.definition.specs.Slot.{stringBytes}
-use Rattle.build.proofs.Stretches.{span-slot}
+use Rattle.build.proofs.Lent.{span-slot}
 use borrow.Author.Needs.{needs}
 use Rattle.build.proofs.slots.marked_into.Statement.{statement}
 use Rattle.build.proofs.slots.marked_into.Tie as tie

@@ -1,5 +1,5 @@
 -- Zeros, or byte 1 and the string.
-use Rattle.build.proofs.Stretches.{absent}
+use Rattle.build.proofs.Lent.{absent}
 use Rattle.build.proofs.Cases.{option-case, option-slot}
 use borrow.Author.Needs.{needs}
 use Rattle.build.proofs.slots.option_into.Statement.{statement}

@@ -1,7 +1,7 @@
 -- The part lent is the one that the span names.
 use Rattle.octets.specs.Bytes.{Bytes, splice}
 use Rattle.definition.specs.Slot.{stringBytes}
-use Rattle.build.proofs.Stretches.{span-slot}
+use Rattle.build.proofs.Lent.{span-slot}
 use borrow.Author.Needs.{needs}
 use Rattle.build.proofs.slots.part_into.Statement.{statement}
 use Rattle.build.proofs.slots.part_into.Tie as tie
