@@ -32,18 +32,25 @@ pub fn register(bytes: &[u8]) -> Vec<Finding> {
     let mut findings = head(bytes);
     if findings.is_empty() {
         let on_chain = chains(bytes, &mut findings);
-        for (index, chain) in on_chain.iter().enumerate().skip(1) {
+        findings.extend(lost(&on_chain));
+        for (index, chain) in on_chain.iter().enumerate() {
             let start = index * RECORD_WIDTH;
-            match chain {
-                None => findings.push(finding(start, "this record lies on no chain".to_string())),
-                Some(chain) => {
-                    let faults = record::faults(*chain, &bytes[start..start + RECORD_WIDTH]);
-                    findings.extend(faults.into_iter().map(|(at, what)| finding(start + at, what)));
-                }
-            }
+            let faults = chain.map(|chain| record::faults(chain, &bytes[start..start + RECORD_WIDTH])).unwrap_or_default();
+            findings.extend(faults.into_iter().map(|(at, what)| finding(start + at, what)));
         }
     }
     findings
+}
+
+/// The records that no chain leads to, told once: they are often lost together, where a chain is broken.
+fn lost(on_chain: &[Option<Chain>]) -> Option<Finding> {
+    let mut lost = (1..on_chain.len()).filter(|index| on_chain[*index].is_none());
+    let first = lost.next()?;
+    let what = match lost.count() {
+        0 => "this record lies on no chain".to_string(),
+        others => format!("this record and {others} behind it lie on no chain"),
+    };
+    Some(finding(first * RECORD_WIDTH, what))
 }
 
 /// What is wrong with the length, the limits and the rest of the header.
@@ -76,11 +83,8 @@ fn head(bytes: &[u8]) -> Vec<Finding> {
 fn chains(bytes: &[u8], findings: &mut Vec<Finding>) -> Vec<Option<Chain>> {
     let mut on_chain = vec![None; bytes.len() / RECORD_WIDTH];
     for (chain, head) in Chain::ALL.into_iter().zip(header::HEADS) {
-        let found = walk(bytes, chain, head, &mut on_chain, findings);
+        findings.extend(walk(bytes, chain, head, &mut on_chain));
         let length = number(bytes, head + 4);
-        if found != length {
-            findings.push(finding(head + 4, format!("the {chain} chain's length is {length}, and {found} records lie on it")));
-        }
         let limit = header::LIMITS.get(chain as usize).map_or(usize::MAX, |at| number(bytes, *at));
         if length > limit {
             findings.push(finding(head + 4, format!("the {chain} chain's length is {length}, above its limit {limit}")));
@@ -89,32 +93,68 @@ fn chains(bytes: &[u8], findings: &mut Vec<Finding>) -> Vec<Option<Chain>> {
     on_chain
 }
 
-/// Follows one chain from its head as far as it is sound; gives how many records lie on it.
-fn walk(bytes: &[u8], chain: Chain, head: usize, on_chain: &mut [Option<Chain>], findings: &mut Vec<Finding>) -> usize {
-    let (mut link, mut found) = (head, 0);
-    loop {
+/// Follows one chain from its head for as many records as its length says, and gives what stops it before its end.
+fn walk(bytes: &[u8], chain: Chain, head: usize, on_chain: &mut [Option<Chain>]) -> Option<Finding> {
+    let (mut link, length, last) = (head, number(bytes, head + 4), on_chain.len() - 1);
+    for found in 0..=length {
         let index = number(bytes, link);
-        if index == 0 {
-            return found;
-        }
-        match on_chain.get_mut(index) {
-            None => {
-                findings.push(finding(
-                    link,
-                    format!("the {chain} chain leads to record {index}; the last is {}", on_chain.len() - 1),
-                ));
-                return found;
-            }
+        let fault = match on_chain.get_mut(index) {
+            _ if index == 0 && found == length => return None,
+            _ if index == 0 => format!("the {chain} chain ends after {found} records, and its length is {length}"),
+            _ if found == length => format!("the {chain} chain goes on to record {index} behind its {length} records"),
+            None => format!("the {chain} chain leads to record {index}, and the last is {last}"),
             Some(Some(earlier)) => {
-                findings.push(finding(
-                    link,
-                    format!("the {chain} chain leads to record {index}, which lies on the {earlier} chain already"),
-                ));
-                return found;
+                format!("the {chain} chain leads to record {index}, which lies on the {earlier} chain already")
             }
-            Some(free) => *free = Some(chain),
+            Some(free) => {
+                *free = Some(chain);
+                link = index * RECORD_WIDTH;
+                continue;
+            }
+        };
+        return Some(finding(link, fault));
+    }
+    None
+}
+
+#[cfg(test)]
+mod tests {
+    use super::register;
+    use alarm_register::{Limits, Object, PolicyAction, Raise, Register, Severity, Time, ANSWER_ROOM, RECORD_WIDTH};
+
+    /// A register with two active alarms, some history and one event.
+    fn filled() -> Vec<u8> {
+        let limits = Limits { active: 2, history: 3, audit: 1 };
+        let (mut bytes, mut answer) = (vec![0; limits.register_length()], [0; ANSWER_ROOM]);
+        let mut opened = Register::open(&mut bytes, limits).unwrap();
+        let queue = Object::DataPlaneQueue { nf: "n", interface: "i", queue: 7 };
+        let store = Object::SessionStore { nf: "n", shard: Some("s") };
+        for (id, object) in [("a", queue), ("b", store)] {
+            let raise = Raise::new(Time(1), id, "t", Severity::Minor, "other:a.b", object).region("r").details(b"d");
+            opened.perform(&raise, &mut answer).unwrap();
         }
-        found += 1;
-        link = index * RECORD_WIDTH;
+        opened.perform(&PolicyAction::suppress(Time(2), "a", "p").authorised(true), &mut answer).unwrap();
+        bytes
+    }
+
+    #[test]
+    fn a_place_is_found_exactly_where_a_register_is_not_sound() {
+        let whole = filled();
+        assert_eq!(register(&whole), []);
+        let (mut state, mut unsound) = (7u64, 0);
+        for _ in 0..20_000 {
+            let mut bytes = whole.clone();
+            for _ in 0..2 {
+                state = state.wrapping_mul(6_364_136_223_846_793_005).wrapping_add(1_442_695_040_888_963_407);
+                let (place, value) = ((state >> 33) as usize, (state >> 24) as u8);
+                // half of the damages are to the header and to the first bytes of records, where the links are
+                let at = if place % 2 == 0 { place / 2 % bytes.len() } else { place / 14 % 7 * RECORD_WIDTH + place / 2 % 60 };
+                bytes[at] = value % [2, 8, 255][place % 3];
+            }
+            let sound = Register::over(&mut bytes).is_sound();
+            unsound += usize::from(!sound);
+            assert_eq!(register(&bytes).is_empty(), sound);
+        }
+        assert!((5_000..20_000).contains(&unsound), "{unsound}");
     }
 }
