@@ -30,9 +30,14 @@ def ready():
         subprocess.run(["rt", "staticlib", "station"], cwd=HERE, check=True, stdout=subprocess.DEVNULL)
 
 
+def without_library():
+    """The environment, without a library of somebody's own."""
+    return {name: value for name, value in os.environ.items() if name != "ALARM_REGISTER_LIB"}
+
+
 def cargo(*words, **variables):
     words = ["cargo", *words, "--offline", "--quiet", "--manifest-path", HERE / "rust/Cargo.toml"]
-    environment = {**{name: value for name, value in os.environ.items() if name != "ALARM_REGISTER_LIB"}, **variables}
+    environment = {**without_library(), **variables}
     return subprocess.run(words, stdout=subprocess.PIPE, stderr=subprocess.STDOUT, text=True, env=environment)
 
 
@@ -203,6 +208,8 @@ def recounted(_root):
     out = works("recount", "target/desk/month.calls", "--against", "examples/second-case/report.csv", status=1).decode()
     if out != (HERE / "examples/second-case/recount").read_text(encoding="utf-8"):
         yield "examples/second-case/recount is not what `station recount` prints"
+    if b"Equal: the 38 figures of examples/day.csv" not in works("recount", DAY, "--against", "examples/day.csv"):
+        yield "the day's report is not equal to its calls"
     true = works("recount", MONTH, "--csv").decode()
     if b"Equal: the 25 figures" not in works("recount", MONTH, "--against", saved("true.csv", true)):
         yield "a list's own figures are not equal to it"
@@ -272,6 +279,24 @@ def closed(_root):
             yield f"full disk: status {done.returncode}, {done.stderr!r}"
 
 
+def shown(root):
+    """The lines that README.md shows of `make run` are printed in that order; `...` stands for lines left out."""
+    _, found, rest = (root / "README.md").read_text(encoding="utf-8").partition("    $ make run\n")
+    if not found:
+        raise Skip("README.md shows no run yet")
+    lines = []
+    for line in rest.splitlines():
+        if line and not line.startswith("    "):
+            break
+        lines.append(line[4:])
+    done = subprocess.run([HERE / "examples/run"], capture_output=True, text=True, env=without_library())
+    printed = iter(done.stdout.splitlines())
+    for line in lines:
+        if line and line != "..." and line not in printed:
+            yield f"not printed, or not in this order: {line}"
+            return
+
+
 USES = {
     "help and command lines": helped,
     "write and read are inverse": written,
@@ -284,6 +309,7 @@ USES = {
     "twins are the same": twins,
     "registers are checked": checked,
     "closed pipes and full disks": closed,
+    "README shows what is printed": shown,
 }
 CHECKS = {
     "both crates pass their tests": builds,
