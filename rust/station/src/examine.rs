@@ -100,7 +100,10 @@ fn walk(bytes: &[u8], chain: Chain, head: usize, on_chain: &mut [Option<Chain>])
         let index = number(bytes, link);
         let fault = match on_chain.get_mut(index) {
             _ if index == 0 && found == length => return None,
-            _ if index == 0 => format!("the {chain} chain ends after {found} records, and its length is {length}"),
+            _ if index == 0 => {
+                let what = format!("the {chain} chain's length is {length}, and it ends after {found} records, at byte {link}");
+                return Some(finding(head + 4, what));
+            }
             _ if found == length => format!("the {chain} chain goes on to record {index} behind its {length} records"),
             None => format!("the {chain} chain leads to record {index}, and the last is {last}"),
             Some(Some(earlier)) => {
