@@ -60,9 +60,6 @@ module _ (call : Bytes) where
   pub option-case : (n : ℕ) {p q : OptSpan} → p ≡ q → optWithin call n p → optWithin call n q
   option-case n e w = subst (λ (x : OptSpan). optWithin call n x) e w
 
-  pub cause-case : {c d : CauseSpan} → c ≡ d → causeWithin call c → causeWithin call d
-  cause-case e w = subst (λ (x : CauseSpan). causeWithin call x) e w
-
   pub object-case : {o p : AffectedObject} → o ≡ p → objectWithin call o → objectWithin call p
   object-case e w = subst (λ (x : AffectedObject). objectWithin call x) e w
 
@@ -71,9 +68,6 @@ module _ (call : Bytes) where
 
   pub option-fed : {p q : OptSpan} → p ≡ q → optional (optPart call q) ≡ optional (optPart call p)
   option-fed e = ap (λ (x : OptSpan). optional (optPart call x)) (sym e)
-
-  pub cause-fed : {c d : CauseSpan} → c ≡ d → causePart call d ≡ causePart call c
-  cause-fed e = ap (causePart call) (sym e)
 
   pub cause-room : (c : CauseSpan) → causeWithin call c → length (string (causePart call c)) ≤ 4 + causeLimit
   cause-room (Name k) w = omega (arith, length-string (getD names k []), short-name k w)

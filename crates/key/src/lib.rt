@@ -1,6 +1,5 @@
 // The key of an alarm: the first 16 bytes of SHA-256 over its type, cause, object and places; and its digits.
 use model::AffectedObject;
-use model::CauseSpan;
 use model::KeyFields;
 use model::OptSpan;
 use model::Places;
@@ -11,24 +10,12 @@ ghost use Prim.Native.Nat.{_+_, _-_, _*_, _≤_, _<_};
 ghost use lib.ListN.{length};
 ghost use Rattle.octets.specs.Bytes.{splice};
 ghost use Rattle.octets.specs.Put.{Put};
-ghost use Rattle.definition.specs.Limits.{shortLimit, causeLimit, regionLimit};
-ghost use Rattle.definition.specs.Cause.{other};
+ghost use Rattle.definition.specs.Limits.{shortLimit, regionLimit};
 ghost use Rattle.definition.specs.Key.{string, optional, decimal, fedObject, fedPlaces, fed, keyOf, hexDigit, hex};
-ghost use Rattle.model.specs.Meaning.{part, optPart, causePart, objectValue, placesValue, keyValue, within, optWithin, causeWithin, objectWithin, PlacesWithin, KeyWithin};
+ghost use Rattle.model.specs.Meaning.{part, optPart, objectValue, placesValue, keyValue, within, optWithin, objectWithin, PlacesWithin, KeyWithin};
 ghost use Rattle.key.specs.Room.{room};
 
 // ---- strings and options, encoded as in a call, put into the buffer of what is hashed
-
-fn put_string(buf: &mut [u8], at: usize, s: &[u8]) -> usize
-    requires { ⌜ (length (now buf) ≡ room) × (at + (4 + length (now s)) ≤ room) ⌝ }
-    ensures { λ r. ⌜ Put (now (buf .entry)) at (string (now (s .entry))) r (now (buf .exit)) ⌝ }
-{
-    let n = s.len();
-    octets::put32(buf, at, n as u32);
-    let a = at + 4;
-    octets::put_bytes(buf, a, s);
-    a + n
-}
 
 // A part of the call.
 fn put_part(buf: &mut [u8], at: usize, call: &[u8], p: Span) -> usize
@@ -37,7 +24,7 @@ fn put_part(buf: &mut [u8], at: usize, call: &[u8], p: Span) -> usize
 {
     let a = p.at;
     let e = a + p.len;
-    put_string(buf, at, &call[a..e])
+    strings::put_string(buf, at, &call[a..e])
 }
 
 fn put_option(buf: &mut [u8], at: usize, call: &[u8], p: OptSpan) -> usize
@@ -55,41 +42,6 @@ fn put_option(buf: &mut [u8], at: usize, call: &[u8], p: OptSpan) -> usize
             put_part(buf, a, call, q)
         }
     }
-}
-
-// ---- the cause, in its stored form
-
-// `other:` and the trimmed name.
-fn put_other(buf: &mut [u8], at: usize, call: &[u8], p: Span) -> usize
-    requires { ⌜ (at + causeLimit ≤ length (now buf)) × (p .at + p .len ≤ length (now call)) × (6 + p .len ≤ causeLimit) ⌝ }
-    ensures { λ r. ⌜ Put (now (buf .entry)) at (other ++ part (now (call .entry)) p) r (now (buf .exit)) ⌝ }
-{
-    let n = p.len;
-    let a = p.at;
-    let e = a + n;
-    let m = at + 6;
-    octets::put_bytes(buf, at, b"other:");
-    octets::put_bytes(buf, m, &call[a..e]);
-    m + n
-}
-
-fn put_stored(buf: &mut [u8], at: usize, call: &[u8], c: CauseSpan) -> usize
-    requires { ⌜ (at + causeLimit ≤ length (now buf)) × causeWithin (now call) c ⌝ }
-    ensures { λ r. ⌜ Put (now (buf .entry)) at (causePart (now (call .entry)) c) r (now (buf .exit)) ⌝ }
-{
-    match c {
-        CauseSpan::Name(k) => cause::put_name(buf, at, k),
-        CauseSpan::Other(p) => put_other(buf, at, call, p),
-    }
-}
-
-fn put_cause(buf: &mut [u8], at: usize, call: &[u8], c: CauseSpan) -> usize
-    requires { ⌜ (length (now buf) ≡ room) × (at + (4 + causeLimit) ≤ room) × causeWithin (now call) c ⌝ }
-    ensures { λ r. ⌜ Put (now (buf .entry)) at (string (causePart (now (call .entry)) c)) r (now (buf .exit)) ⌝ }
-{
-    let mut stored = [0u8; 96];
-    let n = put_stored(&mut stored, 0, call, c);
-    put_string(buf, at, &stored[..n])
 }
 
 // ---- the affected object, behind type and cause, which take 168 bytes at most
@@ -124,7 +76,7 @@ fn put_queue(buf: &mut [u8], at: usize, q: u16) -> usize
         48 + (q % 10) as u8,
     ];
     let a = unwritten(q);
-    put_string(buf, at, &digits[a..])
+    strings::put_string(buf, at, &digits[a..])
 }
 
 // A kind's tag and its one string.
@@ -132,7 +84,7 @@ fn put_single(buf: &mut [u8], at: usize, tag: &[u8], call: &[u8], a: Span) -> us
     requires { ⌜ (length (now buf) ≡ room) × (at ≤ 168) × (length (now tag) ≤ 14) × within (now call) shortLimit a ⌝ }
     ensures { λ r. ⌜ Put (now (buf .entry)) at (string (now (tag .entry)) ++ string (part (now (call .entry)) a)) r (now (buf .exit)) ⌝ }
 {
-    let n = put_string(buf, at, tag);
+    let n = strings::put_string(buf, at, tag);
     put_part(buf, n, call, a)
 }
 
@@ -203,7 +155,7 @@ fn feed(buf: &mut [u8], call: &[u8], kind: Span, k: KeyFields) -> usize
     let object = k.object;
     let places = k.places;
     let t = put_part(buf, 0, call, kind);
-    let c = put_cause(buf, t, call, cause);
+    let c = strings::put_cause(buf, t, call, cause);
     let o = put_object(buf, c, call, object);
     put_places(buf, o, call, places)
 }

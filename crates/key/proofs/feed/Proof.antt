@@ -11,7 +11,7 @@ put-cause-requires : tie.Need-put-cause-requires
 put-cause-requires c κs =
     let s = c .before .before .before .before .before .before .before .before .args in
     let p = c .before .before .before .before .before .before .before .before .pre in
-    (search needs, omega (arith, string-room (s .call .now) 64 (s .kind) (p .1)), p .2 .cause)
+    (omega (arith, string-room (s .call .now) 64 (s .kind) (p .1)), p .2 .cause)
 
 put-object-requires : tie.Need-put-object-requires
 put-object-requires c κs =

@@ -2,7 +2,6 @@
 use mathlib.Core.Path.{ap}
 use Rattle.definition.specs.Key.{string}
 use Rattle.octets.specs.PutLaws.{put-as}
-use Rattle.definition.specs.StringLaws.{put-string}
 use Rattle.key.proofs.Fed.{span-part}
 use borrow.Author.Needs.{needs}
 use Rattle.key.proofs.put_part.Statement.{statement}

@@ -5,7 +5,6 @@ use Rattle.octets.specs.PartLaws.{part-rest}
 use Rattle.definition.specs.Key.{string}
 use Rattle.definition.specs.KeyLaws.{five-decimal, fiveDigits}
 use Rattle.octets.specs.PutLaws.{put-as}
-use Rattle.definition.specs.StringLaws.{put-string}
 use borrow.Author.Needs.{needs}
 use Rattle.key.proofs.put_queue.Statement.{statement}
 use Rattle.key.proofs.put_queue.Tie as tie

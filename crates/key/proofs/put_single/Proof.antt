@@ -2,7 +2,6 @@
 use native.Mathlib.Omega.{arith}
 use Rattle.definition.specs.KeyLaws.{length-string}
 use Rattle.octets.specs.PutLaws.{put-two}
-use Rattle.definition.specs.StringLaws.{put-string}
 use Rattle.key.proofs.Room.{wider}
 use borrow.Author.Needs.{needs}
 use Rattle.key.proofs.put_single.Statement.{statement}
