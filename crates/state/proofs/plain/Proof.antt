@@ -1,0 +1,51 @@
+-- `plain`: a flag of 0 is not authorised.
+use mathlib.Core.Path.{_≡_, refl, ap₂}
+use Prim.Native.Nat.{ℕ, _+_, _-_}
+use native.Mathlib.Nat.{add-sub-cancel-left}
+use lib.ListN.{take, drop}
+use denote.Ref.{now}
+use Rattle.octets.specs.Bytes.{Bytes}
+use Rattle.definition.specs.Steps.{plain}
+use Rattle.model.specs.declared.Span.{Span}
+use Rattle.model.specs.Meaning.{part}
+use Rattle.state.specs.Meaning.{plainOf}
+use native.Mathlib.Omega.{arith}
+use borrow.Author.Needs.{needs}
+use Rattle.changes.specs.Meaning.{actionOf}
+use Rattle.state.specs.ActLaws.{answers-as, unauthorised}
+use Rattle.state.proofs.plain.Statement.{statement}
+use Rattle.state.proofs.plain.Tie as tie
+
+span-part : (call : Bytes) (p : Span) → take (p .at + p .len - p .at) (drop (p .at) call) ≡ part call p
+span-part call p = rw add-sub-cancel-left
+
+returns : tie.Need-returns
+returns c =
+    let w = c .before .before in
+    let i = w .before .before in
+    let s = i .before .before .before .before in
+    unauthorised (actionOf (s .args .action)) _ _ _ _ _ _ _ (s .pre .0 .whole) _ (i .if1 .taken) refl (w .not-authorized .ensures)
+
+returns-2 : tie.Need-returns-2
+returns-2 c =
+    let o = c .before .before .before .before in
+    let i = o .before .before .before .before .before in
+    let s = i .before .before .before .before in
+    let one : 1 ≡ s .args .authorised = omega (arith, s .pre .2, i .if1 .left) in
+    answers-as (ap₂ (λ (d : Bytes) (f : ℕ). plain (actionOf (s .args .action)) (plainOf (s .args .time) d f)) (span-part (now (s .args .call)) (s .args .id)) one) (o .plain-on .ensures)
+
+pub plain-spec : {M : Type 1} → statement M
+plain-spec =
+    tie.close
+    (tie.spec
+    (λ c κs. search needs)
+    (λ c. search needs)
+    returns
+    (λ c. search needs)
+    (λ c. search needs)
+    (λ c. search needs)
+    (λ c. search needs)
+    (λ c κs. search needs)
+    (λ c. search needs)
+    (λ c. search needs)
+    returns-2)

@@ -1,0 +1,24 @@
+-- Calls in values, and what is done to a record that was found.
+use Prim.Native.Nat.{ℕ}
+use Rattle.octets.specs.Bytes.{Bytes}
+use Rattle.definition.specs.Value.{KeyValue, ClearValue, PlainValue}
+use Rattle.definition.specs.Chain.{Entry}
+use Rattle.definition.specs.Alarm.{Alarm}
+use Rattle.definition.specs.Station.{Step, _>>=_, give}
+use Rattle.definition.specs.Answer.{Answer, Cleared}
+use Rattle.definition.specs.Steps.{Action, acknowledging, suppressing, clearedBy, retire}
+
+abbrev pub plainOf : ℕ → Bytes → ℕ → PlainValue
+plainOf time id authorised = record { time = time; id = id; authorised = authorised }
+
+abbrev pub clearOf : ℕ → Bytes → KeyValue → ClearValue
+clearOf time type key = record { time = time; type = type; key = key }
+
+-- the codes of `Acknowledged` and `Suppressed`
+abbrev pub actionCode : Action → ℕ
+actionCode acknowledging = 7
+actionCode suppressing = 6
+
+-- "Clear, key active"
+abbrev pub clearedAt : ℕ → Entry Alarm → Step Answer
+clearedAt time e = _>>=_ (retire (e .index) (clearedBy time (e .content))) (λ (u : Unit {0}). give (Cleared (e .content .id)))
