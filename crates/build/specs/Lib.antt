@@ -1,4 +1,3 @@
-pub mod Raised
 pub mod Acted
 pub mod Stretch
 pub mod BuiltLaws
