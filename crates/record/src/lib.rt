@@ -5,11 +5,11 @@ ghost use mathlib.Core.Option.{none, some};
 ghost use Prim.Native.Nat.{_+_, _≤_};
 ghost use lib.Dec.{T};
 ghost use lib.ListN.{length, take, drop};
-ghost use Rattle.octets.specs.Bytes.{zeros, digits, splice};
+ghost use Rattle.octets.specs.Bytes.{same, zeros, digits, splice};
 ghost use Rattle.definition.specs.Limits.{textLimit, detailsLimit};
-ghost use Rattle.definition.specs.Alarm.{sameIdentity};
+ghost use Rattle.definition.specs.Alarm.{sameMaybe, sameIdentity};
 ghost use Rattle.definition.specs.Book.{payloadWidth};
-ghost use Rattle.definition.specs.Slot.{string, stringBytes};
+ghost use Rattle.definition.specs.Slot.{string, stringBytes, option};
 ghost use Rattle.definition.specs.Record.{anyBytes, lastState, readAlarm, soundAlarm};
 ghost use Rattle.record.specs.Change.{Becomes, withSeverity, withState, withUpdated, withCleared, withText, withDetails};
 use model::Record;
@@ -144,6 +144,18 @@ pub fn cause(p: &[u8]) -> &[u8]
     ensures { λ r. ⌜ now r ≡ readAlarm (now (p .entry)) .about .cause ⌝ }
 {
     string_of(p, AlarmAt::CAUSE, Record::CAUSE)
+}
+
+// Whether the slot of an optional string has one, and it is s.
+pub fn has_some(p: &[u8], at: usize, n: usize, s: &[u8]) -> bool
+    requires { ⌜ (length (now p) ≡ payloadWidth) × (at + (3 + n) ≤ payloadWidth) ⌝ }
+    ensures { λ r. ⌜ r ≡ sameMaybe same (some (now (s .entry))) (option (string n anyBytes) .get (take (3 + n) (drop at (now (p .entry))))) ⌝ }
+{
+    if p[at] == 0 {
+        return false;
+    }
+    let a = at + 1;
+    octets::equal(s, string_of(p, a, n))
 }
 
 // Whether two sound alarms are the same to history.

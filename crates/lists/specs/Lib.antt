@@ -1,0 +1,6 @@
+pub mod Meaning
+pub mod ThoseLaws
+pub mod WayLaws
+pub mod LoopLaws
+pub mod FitLaws
+pub mod ListLaws
