@@ -1,11 +1,12 @@
 #!/usr/bin/env python3
-"""Damages a copy of the repository and sees that each check of layout.py and repository.py notices."""
+"""Damages a copy of the repository and sees that each check of layout.py, repository.py and header.py notices."""
 import pathlib
 import re
 import shutil
 import sys
 import tempfile
 
+import header
 import layout
 import repository
 from checklist import HERE, Skip, faults_of, run
@@ -15,6 +16,7 @@ LIMITS, MODEL = "crates/definition/specs/Limits.antt", "crates/model/src/lib.rt"
 CODE, SPECS, LAWS = "crates/octets/src/lib.rt", "crates/octets/specs/Bytes.antt", "crates/octets/specs/BoolLaws.antt"
 VECTORS = "crates/sha256_vectors/stdout"
 JSON, PAGE, CLAIMS = "docs/layout.json", "docs/LAYOUT.md", "docs/CLAIMS.md"
+HEADER = "include/alarm_register.h"
 
 # For each check: what is damaged, in which file, the pattern, and what takes its place.
 DAMAGES = {
@@ -58,6 +60,20 @@ DAMAGES = {
         ("an offset that is read", BOOK, r"\(at32 s 28\)", "(at32 s 36)"),
         ("two words exchanged", BOOK, r"headOf \(b \.audit\) ∷ length \(b \.audit\)", "length (b .audit) ∷ headOf (b .audit)"),
         ("the zeros behind", BOOK, r"zeros 1476", "zeros 1480"),
+    ],
+    (header, "offsets are the layout's"): [
+        ("an offset in layout.json", JSON, r'"queue": 411', '"queue": 410'),
+        ("an offset in the header", HEADER, r"(ALARM_EVENT_REASON +)379u", r"\g<1>378u"),
+        ("a constant left out", HEADER, r"^#define ALARM_RECORD_KEY .*\n", ""),
+        ("a constant too many", HEADER, r"^#define ALARM_RECORD_KEY .*\n", r"\g<0>#define ALARM_RECORD_COLOUR 5u\n"),
+    ],
+    (header, "limits of strings are the layout's"): [
+        ("a limit", HEADER, r"(ALARM_LONGEST_CAUSE +)96u", r"\g<1>64u"),
+        ("a room on the page", PAGE, r"\| region \| 550 \| 128 \|", "| region | 550 | 64 |"),
+    ],
+    (header, "refusals are 20 to 32"): [
+        ("a refusal of the header", HEADER, r"(ALARM_REFUSED_UTF8 +)27u", r"\g<1>26u"),
+        ("a refusal of the crate", "rust/alarm-register/src/refusal.rs", r"=> 31,", "=> 32,"),
     ],
     (repository, "crates are listed"): [
         ("a crate left out", "crates.txt", r"^octets:.*\n", ""),
@@ -106,7 +122,7 @@ DAMAGES = {
 
 def copied(folder):
     """A copy of what the checks read."""
-    for name in ("crates", "docs", "tests", "compare", ".ci"):
+    for name in ("crates", "docs", "tests", "compare", "include", "rust", ".ci"):
         shutil.copytree(HERE / name, folder / name, ignore=shutil.ignore_patterns("__pycache__", "target"))
     for name in ("crates.txt", "README.md", "NOTICE"):
         shutil.copy(HERE / name, folder / name)

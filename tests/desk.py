@@ -5,6 +5,7 @@ import io
 import json
 import os
 import pathlib
+import re
 import shutil
 import subprocess
 import sys
@@ -279,6 +280,21 @@ def closed(_root):
             yield f"full disk: status {done.returncode}, {done.stderr!r}"
 
 
+def columns(root):
+    """The columns that docs/CALLS.md promises to scripts are those that are printed."""
+    page = (root / "docs/CALLS.md").read_text(encoding="utf-8")
+    tables = re.findall(r"^\| ((?:`[a-z -]+`(?:, )?)+) \| ([a-z_, ]+) \|$", page, re.M)
+    if len(tables) != 9:
+        yield f"docs/CALLS.md has {len(tables)} tables"
+    for names, promised in tables:
+        for name in re.findall(r"`([a-z -]+)`", names):
+            command, *words = name.split()
+            words += ["examples/day.csv"] if words == ["--against"] else []
+            _, out, _ = station(command, *words, HERE / "examples/day.txt" if command == "check" else DAY, "--csv")
+            if out.decode().split("\n")[0] != promised.replace(", ", ","):
+                yield f"{name} has the columns {out.decode().splitlines()[:1]}"
+
+
 def shown(root):
     """The lines that README.md shows of `make run` are printed in that order; `...` stands for lines left out."""
     _, found, rest = (root / "README.md").read_text(encoding="utf-8").partition("    $ make run\n")
@@ -309,6 +325,7 @@ USES = {
     "twins are the same": twins,
     "registers are checked": checked,
     "closed pipes and full disks": closed,
+    "columns are those that are promised": columns,
     "README shows what is printed": shown,
 }
 CHECKS = {

@@ -31,7 +31,7 @@ fn main() {
         }
         _ => println!(
             "cargo::error=no static library at {}: make it with `make lib` at the repository's root (it runs `rt staticlib station`), \
-             or name one, lib*.a, in {VARIABLE}",
+             or give the whole path of one, lib*.a, in {VARIABLE}",
             archive.display()
         ),
     }

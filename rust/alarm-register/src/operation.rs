@@ -114,25 +114,25 @@ fn scoped(call: &mut CallBytes, list: &ListHistory<'_>) {
 /// ```
 #[derive(Clone, Copy, Debug, PartialEq, Eq)]
 pub enum Call<'a> {
-    /// 1
+    /// 1: raises or updates.
     Raise(Raise<'a>),
-    /// 2
+    /// 2: clears.
     Clear(Clear<'a>),
-    /// 3 or 4
+    /// 3 or 4: acknowledges or suppresses.
     Plain(PlainAction<'a>),
-    /// 5 or 6
+    /// 5 or 6: acknowledges or suppresses with policy.
     Policy(PolicyAction<'a>),
-    /// 7
+    /// 7: expires.
     Expire(Expire),
-    /// 8
+    /// 8: lists the active alarms.
     ListActive(ListActive),
-    /// 9
+    /// 9: lists the history.
     ListHistory(ListHistory<'a>),
-    /// 10
+    /// 10: counts the active alarms.
     CountActive(CountActive),
-    /// 11
+    /// 11: sums up.
     Summarise(Summarise),
-    /// 12
+    /// 12: takes audit events.
     TakeAudit(TakeAudit),
 }
 

@@ -13,31 +13,31 @@ use core::fmt;
 #[derive(Clone, Copy, Debug, PartialEq, Eq, Hash, PartialOrd, Ord)]
 #[non_exhaustive]
 pub enum Refusal {
-    /// 20
+    /// 20: a limit is 0 or above 65,535.
     Limits,
-    /// 21
+    /// 21: the register's length is not 1,536 bytes for the header and for each record of the limits.
     RegisterLength,
-    /// 22
+    /// 22: the bytes are not a sound register.
     Unsound,
-    /// 23
+    /// 23: the call is empty, or its operation is not 1 to 12.
     Operation,
-    /// 24
+    /// 24: the call ends early, or has bytes left over.
     CallLength,
-    /// 25
+    /// 25: a byte of the call is outside its values.
     Value,
-    /// 26
+    /// 26: a string of the call is longer than its limit.
     TooLong,
-    /// 27
+    /// 27: a string of the call is not UTF-8.
     Utf8,
-    /// 28
+    /// 28: the cause is not a known name, nor `other:` and a name with a dot.
     Cause,
-    /// 29
+    /// 29: the raise has a region that is present and empty.
     Region,
-    /// 30
+    /// 30: the slice for the answer is too short.
     AnswerLength,
-    /// 31
+    /// 31: the raise would store an id that is active.
     IdActive,
-    /// 32
+    /// 32: no record is free.
     FreeEnded,
     /// A number that this crate does not know: the linked library is newer.
     Unlisted(u32),
