@@ -27,8 +27,27 @@ fn show_number(n: u64) {
     io::print_decimal(STDOUT_FILENO, n);
 }
 
-fn show_named(name: &[u8], n: u64) {
-    say(name);
+// The word of an operation; 0 stands for a refusal.
+fn say_operation(op: u8) {
+    match op {
+        1 => say(b"raise"),
+        2 => say(b"clear"),
+        3 => say(b"acknowledge"),
+        4 => say(b"suppress"),
+        5 => say(b"acknowledge-policy"),
+        6 => say(b"suppress-policy"),
+        7 => say(b"expire"),
+        8 => say(b"active"),
+        9 => say(b"history"),
+        10 => say(b"counts"),
+        11 => say(b"summary"),
+        12 => say(b"take-audit"),
+        _ => say(b"refused"),
+    }
+}
+
+fn show_numbered(op: u8, n: u64) {
+    say_operation(op);
     show_number(n);
 }
 
@@ -146,12 +165,13 @@ fn show_key(call: &[u8], k: KeyFields) {
     show_places(call, p);
 }
 
-// ---- the fields of an operation
+// ---- an operation: its name and its fields
 
 fn show_raise(call: &[u8], r: Raise) {
     let h = r.head;
     let k = r.key;
     let d = r.details;
+    say_operation(1);
     show_number(h.time);
     show_string(call, h.id);
     show_string(call, h.alarm_type);
@@ -163,12 +183,14 @@ fn show_raise(call: &[u8], r: Raise) {
 
 fn show_clear(call: &[u8], c: Clear) {
     let k = c.key;
+    say_operation(2);
     show_number(c.time);
     show_string(call, c.alarm_type);
     show_key(call, k);
 }
 
-fn show_plain(call: &[u8], p: Plain) {
+fn show_plain(call: &[u8], op: u8, p: Plain) {
+    say_operation(op);
     show_number(p.time);
     show_string(call, p.id);
     show_number(p.authorised as u64);
@@ -182,13 +204,14 @@ fn show_scope(call: &[u8], s: Scope) {
     }
 }
 
-fn show_policy(call: &[u8], p: Policy) {
+fn show_policy(call: &[u8], op: u8, p: Policy) {
     let a = p.actor;
     let r = p.request;
     let v = p.verdict;
     let tenant = a.tenant;
     let scope = r.scope;
     let correlation = r.correlation;
+    say_operation(op);
     show_number(a.time);
     show_string(call, a.id);
     show_string(call, a.principal);
@@ -201,45 +224,29 @@ fn show_policy(call: &[u8], p: Policy) {
     show_string(call, v.denial);
 }
 
+fn show_history(call: &[u8], tenant: OptSpan, slice: OptSpan) {
+    say_operation(9);
+    show_option(call, tenant);
+    show_option(call, slice);
+}
+
 // ---- calls
 
 fn show(call: &[u8]) {
     match call::parse(call) {
-        Parsed::Raise(r) => {
-            say(b"raise");
-            show_raise(call, r);
-        }
-        Parsed::Clear(c) => {
-            say(b"clear");
-            show_clear(call, c);
-        }
-        Parsed::Acknowledge(p) => {
-            say(b"acknowledge");
-            show_plain(call, p);
-        }
-        Parsed::Suppress(p) => {
-            say(b"suppress");
-            show_plain(call, p);
-        }
-        Parsed::AcknowledgePolicy(p) => {
-            say(b"acknowledge-policy");
-            show_policy(call, p);
-        }
-        Parsed::SuppressPolicy(p) => {
-            say(b"suppress-policy");
-            show_policy(call, p);
-        }
-        Parsed::Expire(t) => show_named(b"expire", t),
-        Parsed::Active(v) => show_named(b"active", v as u64),
-        Parsed::History { tenant, slice } => {
-            say(b"history");
-            show_option(call, tenant);
-            show_option(call, slice);
-        }
-        Parsed::Counts => say(b"counts"),
-        Parsed::Summary => say(b"summary"),
-        Parsed::TakeAudit(n) => show_named(b"take-audit", n as u64),
-        Parsed::Refused(k) => show_named(b"refused", k as u64),
+        Parsed::Raise(r) => show_raise(call, r),
+        Parsed::Clear(c) => show_clear(call, c),
+        Parsed::Acknowledge(p) => show_plain(call, 3, p),
+        Parsed::Suppress(p) => show_plain(call, 4, p),
+        Parsed::AcknowledgePolicy(p) => show_policy(call, 5, p),
+        Parsed::SuppressPolicy(p) => show_policy(call, 6, p),
+        Parsed::Expire(t) => show_numbered(7, t),
+        Parsed::Active(v) => show_numbered(8, v as u64),
+        Parsed::History { tenant, slice } => show_history(call, tenant, slice),
+        Parsed::Counts => say_operation(10),
+        Parsed::Summary => say_operation(11),
+        Parsed::TakeAudit(n) => show_numbered(12, n as u64),
+        Parsed::Refused(k) => show_numbered(0, k as u64),
     }
 }
 
