@@ -1,0 +1,34 @@
+-- `pass`: the sweep goes on past a record that expires, or is kept.
+use mathlib.Core.Path.{sym, _∙_}
+use native.Mathlib.Omega.{arith}
+use borrow.Author.Needs.{needs}
+use Rattle.history.specs.HeldLaws.{on-fits}
+use Rattle.expiry.specs.SweepLaws.{sweep-due, sweep-kept}
+use Rattle.expiry.proofs.pass.Statement.{statement}
+use Rattle.expiry.proofs.pass.Tie as tie
+
+is-due-requires : tie.Need-is-due-requires
+is-due-requires c κs =
+    let s = c .before .before in
+    on-fits _ (s .pre .0 .whole) 0 _ (omega arith) (s .pre .1 .on)
+
+returns : tie.Need-returns
+returns c b₀ n k r w h e =
+    let x = c .before .before .before in
+    let i = x .before .before in
+    sweep-due _ b₀ _ n _ _ k w h (sym (i .before .is-due .ensures) ∙ i .if1 .taken) _ _ (x .expire-at .ensures) r e
+
+returns-2 : tie.Need-returns-2
+returns-2 c b₀ n k r w h e = sweep-kept _ b₀ _ n _ _ k w h (sym (c .before .is-due .ensures) ∙ c .if1 .left) r e
+
+pub pass-spec : {M : Type 1} → statement M
+pass-spec =
+    tie.close
+    (tie.spec
+    is-due-requires
+    (λ c κs. search needs)
+    (λ c. search needs)
+    (λ c. search needs)
+    returns
+    (λ c. search needs)
+    returns-2)
