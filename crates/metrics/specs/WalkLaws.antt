@@ -52,6 +52,11 @@ module _ (b : Bytes) (h : T (sound b)) where
   pub alarms-length : at32 b 16 ≡ length (activeAlarms b)
   alarms-length = active-length b h ∙ sym (length-map _ (station b .active))
 
+  pub active-most : at32 b 16 ≤ 65535
+  active-most =
+      let l = sound-holds b h .legal .chains in
+      omega (arith, active-length b h, l .activeFits, l .limits .0 .1)
+
   walked : map alarmIn (walk b (at32 b 16) (at32 b 12)) ≡ activeAlarms b
   unfolding station stationOf
   walked = ap (map alarmIn) (sym (chain-read b 0 (omega arith))) ∙ sym (contents-map readAlarm (readBook b .active) ∙ map-map readAlarm _ (readBook b .active))
