@@ -145,7 +145,7 @@ mod tests {
         let whole = filled();
         assert_eq!(register(&whole), []);
         let (mut state, mut unsound) = (7u64, 0);
-        for _ in 0..20_000 {
+        for _ in 0..5_000 {
             let mut bytes = whole.clone();
             for _ in 0..2 {
                 state = state.wrapping_mul(6_364_136_223_846_793_005).wrapping_add(1_442_695_040_888_963_407);
@@ -158,6 +158,6 @@ mod tests {
             unsound += usize::from(!sound);
             assert_eq!(register(&bytes).is_empty(), sound);
         }
-        assert!((5_000..20_000).contains(&unsound), "{unsound}");
+        assert!((1_250..5_000).contains(&unsound), "{unsound}");
     }
 }
