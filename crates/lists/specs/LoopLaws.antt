@@ -16,7 +16,8 @@ use Rattle.definition.specs.Book.{Record, recordOf, walk}
 use Rattle.definition.specs.BookPathLaws.{length-walk}
 use Rattle.definition.specs.Answer.{alarmRecords}
 use Rattle.lists.specs.Meaning.{alarmOf, alarmsOn}
-use Rattle.lists.specs.ThoseLaws.{those-append, those-one, those-most, those-part, put-none, records-append, length-records}
+use Rattle.lists.specs.RecordsLaws.{put-none, records-append, length-records}
+use Rattle.lists.specs.ThoseLaws.{those-append, those-one, those-most, those-part}
 use Rattle.lists.specs.WayLaws.{Way, Followed, follow-start, follow-end, follow-next, follow-on, follow-parts}
 
 -- the alarms that pass a test among the first k records from i on, and of the record at `at`

@@ -1,19 +1,15 @@
--- Those of a list that pass a test: one behind the others, how many, and their records.
-use Prim.Native.Nat.{ℕ, _+_, _*_, _≤_}
-use mathlib.Core.Path.{_≡_, refl, sym, ap, _∙_}
-use mathlib.Core.List.{List, [], _∷_, _++_, append-assoc, append-nil}
+-- Those of a list that pass a test: one behind the others, how many, and the record of one.
+use Prim.Native.Nat.{_+_, _≤_}
+use mathlib.Core.Path.{_≡_, refl, ap}
+use mathlib.Core.List.{List, [], _∷_, _++_, append-nil}
 use mathlib.Core.Bool.{Bool, true, false, cond}
 use native.Mathlib.Omega.{arith}
 use lib.ListN.{length, length-append}
 use Rattle.octets.specs.Bytes.{Bytes, be32}
-use Rattle.octets.specs.NumberLaws.{length-digits}
-use Rattle.octets.specs.SpliceLaws.{splice-none}
-use Rattle.octets.specs.Put.{Put}
 use Rattle.definition.specs.Chain.{those}
 use Rattle.definition.specs.Alarm.{Alarm}
 use Rattle.definition.specs.Record.{alarmBytes}
-use Rattle.definition.specs.RecordLaws.{length-alarm}
-use Rattle.definition.specs.Answer.{alarmRecord, alarmRecords}
+use Rattle.definition.specs.Answer.{alarmRecords}
 
 module _ {A : Type 0} (t : A → Bool) where
   pub those-append : (l m : List A) → those t (l ++ m) ≡ those t l ++ those t m
@@ -59,13 +55,8 @@ unfolding those
 those-all [] = refl
 those-all (a ∷ l) = ap (_∷_ a) (those-all l)
 
--- ---- their records
+-- ---- the record of one alarm
 
--- nothing is put
-pub put-none : (b : Bytes) (at : ℕ) → at ≤ length b → Put b at [] at b
-put-none b at h = record { next = omega arith; fits = h; bytes = sym (splice-none b at) }
-
--- of one alarm
 module _ (t : Alarm → Bool) (a : Alarm) where
   pub record-passes : (p : Bytes) → alarmBytes a ≡ p → t a ≡ true → alarmRecords (those t (a ∷ [])) ≡ be32 0 ++ p
   unfolding those alarmRecords
@@ -74,14 +65,3 @@ module _ (t : Alarm → Bool) (a : Alarm) where
   pub record-fails : t a ≡ false → alarmRecords (those t (a ∷ [])) ≡ []
   unfolding those alarmRecords
   record-fails h = rw h
-
-pub records-append : (l m : List Alarm) → alarmRecords (l ++ m) ≡ alarmRecords l ++ alarmRecords m
-unfolding alarmRecords
-records-append [] m = refl
-records-append (a ∷ l) m = ap (λ b. alarmRecord a ++ b) (records-append l m) ∙ sym (append-assoc (alarmRecord a) (alarmRecords l) (alarmRecords m))
-
-pub length-records : (l : List Alarm) → length (alarmRecords l) ≡ 1536 * length l
-unfolding alarmRecords
-length-records [] = refl
-length-records (a ∷ l) =
-    omega (arith, length-append (alarmRecord a) (alarmRecords l), length-append (be32 0) (alarmBytes a), length-digits 4 0, length-alarm a, length-records l)
