@@ -1,0 +1,73 @@
+-- `raise_new`: a full chain is answered with its limit.
+use mathlib.Core.Path.{_∙_}
+use Prim.Native.Nat.{_≤_}
+use native.Mathlib.Omega.{arith}
+use borrow.Author.Needs.{needs}
+use lib.ListN.{length}
+use denote.Ref.{now}
+use Rattle.definition.specs.BookSoundLaws.{length-sound}
+use Rattle.definition.specs.SoundLaws.{sound-holds}
+use Rattle.definition.specs.HistoryLaws.{active-limit, active-length}
+use Rattle.raise.specs.Meaning.{raiseValue}
+use Rattle.raising.specs.RaiseLaws.{limit-met, has-room}
+use Rattle.raising.proofs.raise_new.Statement.{statement}
+use Rattle.raising.proofs.raise_new.Tie as tie
+
+header : (s : tie.Start) → 1536 ≤ length (now (s .args .register))
+header s = omega (arith, length-sound (now (s .args .register)) (sound-holds _ (s .pre .0 .newest .whole) .book))
+
+get32-requires : tie.Need-get32-requires
+get32-requires c κs = omega (arith, header (c .before .before .before .before .before))
+
+get32-requires-2 : tie.Need-get32-requires-2
+get32-requires-2 c κs = omega (arith, header (c .before .before .before .before .before .before .before))
+
+returns : tie.Need-returns
+returns c =
+    let w = c .before .before in
+    let i = w .before .before in
+    let h = i .before in
+    let g = h .before .before in
+    let s = g .before .before .before .before .before .before in
+    let b = now (s .args .register) in
+    let x = s .pre .0 .newest .whole in
+    limit-met (raiseValue (now (s .args .call)) (s .args .r)) _ b x _ _ _ _ (g .get32 .ensures ∙ active-limit b x)
+    (omega (arith, i .if1 .taken, g .get32 .ensures, h .get322 .ensures, active-limit b x, active-length b x)) (w .put-limit .ensures)
+
+insert-requires : tie.Need-insert-requires
+insert-requires c κs =
+    let i = c .before .before in
+    let h = i .before in
+    let g = h .before .before in
+    let s = g .before .before .before .before .before .before in
+    let b = now (s .args .register) in
+    let x = s .pre .0 .newest .whole in
+    (s .pre .0, record { is = s .pre .1; room = omega (arith, i .if1 .left, g .get32 .ensures, h .get322 .ensures, active-limit b x, active-length b x) }, s .pre .2)
+
+returns-2 : tie.Need-returns-2
+returns-2 c =
+    let n = c .before .before .before .before in
+    let i = n .before .before .before in
+    let h = i .before in
+    let g = h .before .before in
+    let s = g .before .before .before .before .before .before in
+    let b = now (s .args .register) in
+    let x = s .pre .0 .newest .whole in
+    has-room (raiseValue (now (s .args .call)) (s .args .r)) (now (s .args .key)) b x (n .insert .result) (n .insert .last .0) (now (s .args .answer)) (n .insert .last .1 .1 .1 .1 .1 .1 .0)
+    (omega (arith, i .if1 .left, g .get32 .ensures, h .get322 .ensures, active-limit b x, active-length b x)) (n .insert .ensures)
+
+pub raise-new-spec : {M : Type 1} → statement M
+raise-new-spec =
+    tie.close
+    (tie.spec
+    get32-requires
+    get32-requires-2
+    (λ c. search needs)
+    (λ c κs. search needs)
+    (λ c. search needs)
+    (λ c. search needs)
+    returns
+    insert-requires
+    (λ c. search needs)
+    (λ c. search needs)
+    returns-2)

@@ -1,0 +1,62 @@
+-- `update`: the payload is taken out, changed by the raise and put back.
+use mathlib.Core.Path.{sym, subst}
+use native.Mathlib.Omega.{arith}
+use borrow.Author.Needs.{needs}
+use denote.Ref.{now}
+use Rattle.octets.specs.Bytes.{Bytes}
+use Rattle.definition.specs.Record.{lastActive}
+use Rattle.raise.specs.Meaning.{raiseValue}
+use Rattle.history.specs.Meaning.{IsAlarm}
+use Rattle.history.specs.HeldLaws.{on-fits}
+use Rattle.state.specs.ActLaws.{on-alarm}
+use Rattle.raising.specs.RaiseLaws.{updated-payload, updates}
+use Rattle.raising.proofs.update.Statement.{statement}
+use Rattle.raising.proofs.update.Tie as tie
+
+load-requires : tie.Need-load-requires
+load-requires c κs =
+    let s = c .before .before .before .before .before .before .before in (search needs, on-fits _ (s .pre .0 .newest .whole) 0 _ (omega arith) (s .pre .1))
+
+updated-by-requires : tie.Need-updated-by-requires
+updated-by-requires c κs =
+    let l = c .before .before in
+    let s = l .before .before .before .before .before .before .before .before in (
+      subst (λ (p : Bytes). IsAlarm lastActive p) (sym (l .load .ensures)) (on-alarm _ _ (s .pre .0 .newest .whole) (s .pre .1)),
+      record { text = s .pre .0 .parts .text; details = s .pre .0 .parts .details },
+    )
+
+change-requires : tie.Need-change-requires
+change-requires c κs =
+    let x = c .before .before .before in
+    let l = x .before .before .before in
+    let s = l .before .before .before .before .before .before .before .before in (
+      s .pre .0 .newest,
+      s .pre .1,
+      updated-payload (raiseValue (now (s .args .call)) (s .args .r)) _ _ _ _ (s .pre .0 .newest .whole) (s .pre .1) (s .pre .0 .legal) (l .load .ensures) (x .updated-by .ensures) .0,
+    )
+
+returns : tie.Need-returns
+returns c =
+    let a = c .before .before in
+    let h = a .before .before .before .before .before in
+    let x = h .before .before .before .before in
+    let l = x .before .before .before in
+    let s = l .before .before .before .before .before .before .before .before in
+    updates (raiseValue (now (s .args .call)) (s .args .r)) _ _ _ _ (s .pre .0 .newest .whole) (s .pre .1) (s .pre .0 .legal) (l .load .ensures) (x .updated-by .ensures)
+    _ _ _ _ (h .change .ensures) (a .put-alarm .ensures)
+
+pub update-spec : {M : Type 1} → statement M
+update-spec =
+    tie.close
+    (tie.spec
+    (λ c. search needs)
+    load-requires
+    (λ c. search needs)
+    updated-by-requires
+    (λ c. search needs)
+    change-requires
+    (λ c. search needs)
+    (λ c κs. search needs)
+    (λ c. search needs)
+    (λ c. search needs)
+    returns)

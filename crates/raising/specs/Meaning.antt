@@ -1,0 +1,30 @@
+-- What a raise needs, and its ways.
+use Prim.Native.Nat.{ℕ, _≤_}
+use mathlib.Core.Option.{none}
+use lib.ListN.{length}
+use Rattle.octets.specs.Bytes.{Bytes}
+use Rattle.definition.specs.Value.{RaiseValue}
+use Rattle.definition.specs.Fields.{LegalRaise}
+use Rattle.definition.specs.Record.{readAlarm}
+use Rattle.definition.specs.Book.{recordOf}
+use Rattle.definition.specs.Station.{Step}
+use Rattle.definition.specs.Answer.{Answer, Updated}
+use Rattle.definition.specs.Steps.{change, updatedBy, raiseAt}
+use Rattle.raise.specs.declared.Raise.{Raise}
+use Rattle.raise.specs.Meaning.{raiseValue, RaiseWithin}
+use Rattle.history.specs.Meaning.{Newest}
+
+-- a sound register with history's newest record, a raise that the call holds, and room for an alarm in the answer
+pub record Ready (b : Bytes) (last : ℕ) (call : Bytes) (r : Raise) (a : Bytes) : Type 0 where
+  pub newest : Newest b last
+  pub parts : RaiseWithin call r
+  pub legal : LegalRaise (raiseValue call r)
+  pub room : 1552 ≤ length a
+
+-- "Raise, key active": record i of b
+abbrev pub updatesAt : Bytes → ℕ → RaiseValue → Step Answer
+updatesAt b i c = change Updated i (updatedBy c (readAlarm (recordOf b i .content)))
+
+-- "Otherwise"
+abbrev pub raisesNew : RaiseValue → Bytes → Step Answer
+raisesNew c k = raiseAt c k none

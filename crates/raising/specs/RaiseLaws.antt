@@ -1,0 +1,119 @@
+-- A raise, from the moves of the code.
+use Prim.Native.Nat.{ℕ, _≤_, _<_}
+use mathlib.Core.Path.{_≡_, refl, sym, ap, _∙_, subst}
+use mathlib.Core.List.{_++_}
+use mathlib.Core.Bool.{true, false}
+use mathlib.Core.Option.{Option, none}
+use borrow.Author.Tests.{le-leb, lt-leb}
+use lib.Dec.{T, leb}
+use lib.ListN.{length}
+use Rattle.octets.specs.Bytes.{Bytes, be32}
+use Rattle.octets.specs.Put.{Put}
+use Rattle.octets.specs.PutLaws.{put-as}
+use Rattle.definition.specs.Value.{RaiseValue}
+use Rattle.definition.specs.Key.{keyOf}
+use Rattle.definition.specs.Chain.{Entry, present, first}
+use Rattle.definition.specs.Alarm.{Alarm, hasKey, hasId}
+use Rattle.definition.specs.Fields.{LegalRaise}
+use Rattle.definition.specs.ChangeLaws.{updated-legal, new-legal}
+use Rattle.definition.specs.Record.{lastActive, alarmBytes, readAlarm}
+use Rattle.definition.specs.Book.{recordOf}
+use Rattle.definition.specs.Station.{Step, _>>=_, refuse}
+use Rattle.definition.specs.Steps.{change, updatedBy, newAlarm, store, storeNew, limitExceeded, raiseAt, raise}
+use Rattle.definition.specs.Answer.{Answer, Raised, Updated, ActiveLimitExceeded, head, headBytes, answerBytes}
+use Rattle.definition.specs.Sound.{station, sound}
+use Rattle.definition.specs.MoveLaws.{Does}
+use Rattle.definition.specs.ReplyLaws.{Answers, Refuses}
+use Rattle.history.specs.Meaning.{IsAlarm, OnActive, Changes}
+use Rattle.history.specs.DoesLaws.{does-then, does-look, does-yes, does-no}
+use Rattle.history.specs.HeldLaws.{Held, alarm-payload, payload-legal}
+use Rattle.state.specs.ActLaws.{on-alarm}
+use Rattle.answers.specs.AnswerLaws.{alarm-as, answers-put}
+use Rattle.changes.specs.Meaning.{updatedWith, newsIn, updated-with}
+use Rattle.reply.specs.declared.Reply.{Reply}
+use Rattle.reply.specs.declared.Reply.the-variants.{Answered, Refused}
+use Rattle.reply.specs.Meaning.{Replies}
+use Rattle.raising.specs.Meaning.{updatesAt, raisesNew}
+
+-- a step that does the same on this register
+pub replies-at : (y : Reply) (m m′ : Step Answer) (b b′ a a′ : Bytes) → m′ (station b) ≡ m (station b) → Replies y m b b′ a a′ → Replies y m′ b b′ a a′
+replies-at (Answered n) m m′ b b′ a a′ e w =
+    record { value = w .value; does = record { step = e ∙ w .does .step; sound = w .does .sound }; size = w .size; bytes = w .bytes }
+replies-at (Refused k) m m′ b b′ a a′ e w = record { stops = e ∙ w .stops; register = w .register; answer = w .answer }
+
+-- ---- an active alarm is updated
+
+module _ (c : RaiseValue) (b q p : Bytes) (i : ℕ) (h : T (sound b)) (o : OnActive b i) (l : LegalRaise c) (k : q ≡ recordOf b i .content) (e : p ≡ alarmBytes (updatedWith (newsIn c) (readAlarm q))) where
+  abbrev alarm : Alarm
+  alarm = updatedBy c (readAlarm (recordOf b i .content))
+
+  bytes : p ≡ alarmBytes alarm
+  bytes = e ∙ ap (λ (r : Bytes). alarmBytes (updatedWith (newsIn c) (readAlarm r))) k ∙ ap alarmBytes (updated-with c (readAlarm (recordOf b i .content)))
+
+  pub updated-payload : IsAlarm lastActive p × (readAlarm p ≡ alarm)
+  updated-payload =
+      alarm-payload lastActive alarm p bytes (updated-legal c (readAlarm (recordOf b i .content)) l (payload-legal lastActive (recordOf b i .content) (on-alarm b i h o .legal)))
+
+  pub updates : (b′ a a′ : Bytes) (n : ℕ) → Changes i (readAlarm p) b b′ → Put a 0 (headBytes (head 2 1 0) ++ (be32 0 ++ p)) n a′ → Answers (updatesAt b i c) b b′ a a′ n
+  updates b′ a a′ n f w =
+      answers-put (subst (λ (y : Alarm). Does (change Updated i y) b b′ (Updated y)) (updated-payload .1) (f Updated)) (put-as (alarm-as (Updated alarm) alarm refl refl (sym bytes)) w)
+
+-- ---- a new one is stored
+
+module _ (c : RaiseValue) (k b : Bytes) (h : T (sound b)) where
+  abbrev new : Alarm
+  new = newAlarm c k
+
+  abbrev taken : Option (Entry Alarm)
+  taken = first (hasId (c .head .id)) (station b .active)
+
+  -- 31: "raise would store an id that is active"
+  pub id-taken : (b′ a a′ : Bytes) → present taken ≡ true → b′ ≡ b → a′ ≡ a → Refuses (storeNew new) b b′ a a′ 31
+  unfolding storeNew newAlarm _>>=_
+  id-taken b′ a a′ e r s = record { stops = rw e; register = r; answer = s }
+
+  module _ (p : Bytes) (l : LegalRaise c) (w : length k ≡ 16) (e : p ≡ alarmBytes new) where
+    pub new-payload : IsAlarm lastActive p × (readAlarm p ≡ new)
+    new-payload = alarm-payload lastActive new p e (new-legal c k l w)
+
+    pub stores-new :
+        (b′ a a′ : Bytes) (n : ℕ) → present taken ≡ false → Does (store (readAlarm p)) b b′ (Raised (readAlarm p)) → Put a 0 (headBytes (head 1 1 0) ++ (be32 0 ++ p)) n a′ →
+        Answers (storeNew new) b b′ a a′ n
+    unfolding storeNew newAlarm
+    stores-new b′ a a′ n f d z =
+        answers-put
+        (does-then _ (does-look b _ h) (does-no (present taken) (refuse 31) (store new) f (subst (λ (y : Alarm). Does (store y) b b′ (Raised y)) (new-payload .1) d)))
+        (put-as (alarm-as (Raised new) new refl refl (sym e)) z)
+
+  -- ---- "Otherwise .. ActiveLimitExceeded"
+
+  pub limit-met :
+      (a a′ : Bytes) (m n : ℕ) → m ≡ station b .limitA → station b .limitA ≤ length (station b .active) → Put a 0 (answerBytes (ActiveLimitExceeded k m)) n a′ → Answers (raisesNew c k) b b a a′ n
+  unfolding raiseAt
+  limit-met a a′ m n e full z =
+      answers-put
+      (does-then _ (does-look b _ h) (does-yes (leb (station b .limitA) (length (station b .active))) (limitExceeded k) (storeNew new) (le-leb _ _ full) (does-look b _ h)))
+      (put-as (ap (λ (x : ℕ). answerBytes (ActiveLimitExceeded k x)) e) z)
+
+  pub has-room : (y : Reply) (b′ a a′ : Bytes) → length (station b .active) < station b .limitA → Replies y (storeNew new) b b′ a a′ → Replies y (raisesNew c k) b b′ a a′
+  unfolding raiseAt _>>=_
+  has-room y b′ a a′ room r = replies-at y (storeNew new) (raisesNew c k) b b′ a a′ (rw (lt-leb (station b .limitA) (length (station b .active)) room)) r
+
+-- ---- the key is looked for
+
+module _ (c : RaiseValue) (k : Bytes) (e : k ≡ keyOf (c .head .type) (c .key)) (b b′ a a′ : Bytes) where
+  abbrev theKey : Bytes
+  theKey = keyOf (c .head .type) (c .key)
+
+  pub raise-found : (i p n : ℕ) → Held (hasKey k) b i p → Answers (updatesAt b i c) b b′ a a′ n → Replies (Answered n) (raise c) b b′ a a′
+  unfolding raise raiseAt _>>=_
+  raise-found i p n held w =
+      let f = subst (λ (z : Bytes). Held (hasKey z) b i p) e held in
+      replies-at (Answered n) (updatesAt b i c) (raise c) b b′ a a′ (rw (f .found)) w
+
+  pub raise-none : (y : Reply) → first (hasKey k) (station b .active) ≡ none → Replies y (raisesNew c k) b b′ a a′ → Replies y (raise c) b b′ a a′
+  unfolding raise _>>=_
+  raise-none y f w =
+      let g = subst (λ (z : Bytes). first (hasKey z) (station b .active) ≡ none) e f in
+      let v = subst (λ (z : Bytes). Replies y (raisesNew c z) b b′ a a′) e w in
+      replies-at y (raisesNew c theKey) (raise c) b b′ a a′ (rw g) v
