@@ -1,18 +1,23 @@
 -- Calls in values, and what is done to a record that was found.
-use Prim.Native.Nat.{ℕ}
+use Prim.Native.Nat.{ℕ, _≤_}
 use Rattle.octets.specs.Bytes.{Bytes}
 use Rattle.definition.specs.Value.{KeyValue, ClearValue, PlainValue}
 use Rattle.definition.specs.Chain.{Entry}
 use Rattle.definition.specs.Alarm.{Alarm}
 use Rattle.definition.specs.Station.{Step, _>>=_, give}
 use Rattle.definition.specs.Answer.{Answer, Cleared}
-use Rattle.definition.specs.Steps.{Action, acknowledging, suppressing, clearedBy, retire}
+use Rattle.definition.specs.Steps.{Action, acknowledging, suppressing, plain, clearedBy, retire}
+use Rattle.definition.specs.ReplyLaws.{Answers}
 
 abbrev pub plainOf : ℕ → Bytes → ℕ → PlainValue
 plainOf time id authorised = record { time = time; id = id; authorised = authorised }
 
 abbrev pub clearOf : ℕ → Bytes → KeyValue → ClearValue
 clearOf time type key = record { time = time; type = type; key = key }
+
+-- the call is authorised: its flag is not 0
+abbrev pub Authorised : Action → ℕ → Bytes → Bytes → Bytes → Bytes → Bytes → ℕ → Type 0
+Authorised x time id b b′ a a′ n = (flag : ℕ) → 1 ≤ flag → Answers (plain x (plainOf time id flag)) b b′ a a′ n
 
 -- the codes of `Acknowledged` and `Suppressed`
 abbrev pub actionCode : Action → ℕ

@@ -14,7 +14,7 @@ ghost use Rattle.octets.specs.Put.{Put};
 ghost use Rattle.model.specs.Meaning.{part, keyValue, within, KeyWithin};
 ghost use Rattle.history.specs.Meaning.{Newest, OnActive};
 ghost use Rattle.changes.specs.Meaning.{actionOf};
-ghost use Rattle.state.specs.Meaning.{plainOf, clearOf, actionCode, clearedAt};
+ghost use Rattle.state.specs.Meaning.{plainOf, Authorised, clearOf, actionCode, clearedAt};
 use changes::Action;
 use model::KeyFields;
 use model::Record;
@@ -76,7 +76,7 @@ fn not_authorized(answer: &mut [u8], action: Action) -> usize
     }
 }
 
-// The alarm with the id, if it is active.
+// The alarm with the id, if it is active; the call says that it is authorised.
 fn plain_on(
     register: &mut [u8],
     last: u32,
@@ -87,8 +87,10 @@ fn plain_on(
 ) -> usize
     requires { ⌜ Newest (now register) last × (length (now id) ≤ shortLimit) × (1552 ≤ length (now answer)) ⌝ }
     ensures { λ r.
-        ⌜ Answers
-        (S.plain (actionOf action) (plainOf time (now (id .entry)) 1))
+        ⌜ Authorised
+        (actionOf action)
+        time
+        (now (id .entry))
         (now (register .entry))
         (now (register .exit))
         (now (answer .entry))
@@ -111,7 +113,7 @@ pub fn plain(
     action: Action,
     answer: &mut [u8],
 ) -> usize
-    requires { ⌜ Newest (now register) last × within (now call) shortLimit id × (authorised ≤ 1) × (1552 ≤ length (now answer)) ⌝ }
+    requires { ⌜ Newest (now register) last × within (now call) shortLimit id × (1552 ≤ length (now answer)) ⌝ }
     ensures { λ r.
         ⌜ Answers
         (S.plain (actionOf action) (plainOf time (part (now (call .entry)) id) authorised))

@@ -1,5 +1,5 @@
 -- `plain`: a flag of 0 is not authorised.
-use mathlib.Core.Path.{_≡_, refl, ap₂}
+use mathlib.Core.Path.{_≡_, refl, ap}
 use Prim.Native.Nat.{ℕ, _+_, _-_}
 use native.Mathlib.Nat.{add-sub-cancel-left}
 use lib.ListN.{take, drop}
@@ -31,8 +31,8 @@ returns-2 c =
     let o = c .before .before .before .before in
     let i = o .before .before .before .before .before in
     let s = i .before .before .before .before in
-    let one : 1 ≡ s .args .authorised = omega (arith, s .pre .2, i .if1 .left) in
-    answers-as (ap₂ (λ (d : Bytes) (f : ℕ). plain (actionOf (s .args .action)) (plainOf (s .args .time) d f)) (span-part (now (s .args .call)) (s .args .id)) one) (o .plain-on .ensures)
+    answers-as (ap (λ (d : Bytes). plain (actionOf (s .args .action)) (plainOf (s .args .time) d (s .args .authorised))) (span-part (now (s .args .call)) (s .args .id)))
+    (o .plain-on .ensures (s .args .authorised) (omega (arith, i .if1 .left)))
 
 pub plain-spec : {M : Type 1} → statement M
 plain-spec =

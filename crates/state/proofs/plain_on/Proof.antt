@@ -27,19 +27,19 @@ act-requires c κs =
     let s = i .before .before .before .before .before .before .before in (s .pre .0, held i .on, s .pre .2)
 
 returns : tie.Need-returns
-returns c =
+returns c flag set =
     let a = c .before .before .before .before in
     let i = a .before .before .before .before in
     let s = i .before .before .before .before .before .before .before in
-    on-found (actionOf (s .args .action)) _ _ _ _ _ _ _ (s .pre .0 .whole) 1 (omega arith) _ _ (held i) (a .act .ensures)
+    on-found (actionOf (s .args .action)) _ _ _ _ _ _ _ (s .pre .0 .whole) flag set _ _ (held i) (a .act .ensures)
 
 returns-2 : tie.Need-returns-2
-returns-2 c =
+returns-2 c flag set =
     let w = c .before .before in
     let e = w .before .before in
     let f = e .before .before in
     let s = f .before .before .before .before .before in
-    on-none (actionOf (s .args .action)) _ _ _ _ _ _ _ (s .pre .0 .whole) 1 (omega arith)
+    on-none (actionOf (s .args .action)) _ _ _ _ _ _ _ (s .pre .0 .whole) flag set
     (not-found _ (s .pre .0 .whole) (hasId (now (s .args .id))) (sym (f .find-id .ensures) ∙ e .enum-told .given .1)) refl (w .put-text .ensures)
 
 pub plain-on-spec : {M : Type 1} → statement M
