@@ -6,7 +6,7 @@ use native.Mathlib.Omega.{arith}
 use borrow.Author.Tests.{lt-ltb, le-ltb}
 use lib.Dec.{T}
 use lib.ListN.{length, replicate, length-append, length-replicate}
-use Rattle.octets.specs.Bytes.{Bytes, zeros, at32}
+use Rattle.octets.specs.Bytes.{Bytes, zeros}
 use Rattle.octets.specs.Put.{Put}
 use Rattle.octets.specs.PutLaws.{put-as}
 use Rattle.definition.specs.ChainLaws.{length-map}
@@ -18,20 +18,15 @@ use Rattle.definition.specs.Sound.{sound}
 use Rattle.definition.specs.ReplyLaws.{Answers, Refuses}
 use Rattle.history.specs.DoesLaws.{does-then, does-give, does-look, does-no}
 use Rattle.answers.specs.AnswerLaws.{length-head, answer-as, answers-put, put-list}
-use Rattle.metrics.specs.WalkLaws.{activeAlarms, alarms-length}
-use Rattle.metrics.specs.Marks.{ratings, settled, unmarked, listed}
-use Rattle.metrics.specs.MarkLaws.{settled-firsts}
+use Rattle.metrics.specs.Meaning.{activeAlarms, ratings, settled, unmarked, entries, listing, Settled}
+use Rattle.metrics.specs.MarkLaws.{settled-firsts, Marked, settled-all}
 
--- the marks tell first appearances of ratings from others
-pub record Settled (l : List Rating) (ms : Bytes) : Type 0 where
-  pub firsts : unmarked l ms ≡ firstsFrom [] l
-
-pub settled-zeros : (b : Bytes) → T (sound b) → (ms ns : Bytes) → at32 b 16 ≤ length ms → ms ≡ zeros (length ms) → ns ≡ settled (ratings b) ms → Settled (ratings b) ns
-settled-zeros b h ms ns room z e =
+pub settled-zeros : {b ms ns : Bytes} {n k at : ℕ} → Marked b settled ms ns n 0 k at → n ≤ k → ms ≡ zeros (length ms) → Settled (ratings b) ns
+settled-zeros {b} {ms} w l z =
     record {
       firsts =
-          ap (unmarked (ratings b)) (e ∙ ap (settled (ratings b)) z)
-          ∙ settled-firsts (ratings b) (length ms) (omega (arith, alarms-length b h, length-map rating (activeAlarms b)));
+          ap (unmarked (ratings b)) (settled-all w l ∙ ap (settled (ratings b)) z)
+          ∙ settled-firsts (ratings b) (length ms) (omega (arith, w .reached .held, w .room, w .size, length-map rating (activeAlarms b)));
     }
 
 -- no place is marked at first
@@ -47,26 +42,26 @@ module _ (b ms : Bytes) (s : Settled (ratings b) ms) where
   unfolding tally
   entries-tally = ap length (s .firsts) ∙ sym (length-map (countOf (ratings b)) (firstsFrom [] (ratings b)))
 
-  bytes-tally : listed (ratings b) (ratings b) ms ≡ countEntries (tally (ratings b))
-  unfolding tally listed
+  bytes-tally : listing b ms ≡ countEntries (tally (ratings b))
+  unfolding tally entries
   bytes-tally = ap (λ (l : List Rating). countEntries (map (countOf (ratings b)) l)) (s .firsts)
 
   module _ (n : ℕ) (en : n ≡ length (unmarked (ratings b) ms)) where
-    answer-is : headBytes (head 11 n 0) ++ listed (ratings b) (ratings b) ms ≡ answerBytes answer
+    answer-is : headBytes (head 11 n 0) ++ listing b ms ≡ answerBytes answer
     answer-is = answer-as answer (ap (λ (m : ℕ). head 11 m 0) (sym (en ∙ entries-tally))) (sym bytes-tally)
 
-    answer-length : length (answerBytes answer) ≡ 16 + length (listed (ratings b) (ratings b) ms)
+    answer-length : length (answerBytes answer) ≡ 16 + length (listing b ms)
     answer-length =
-        sym (ap length answer-is) ∙ length-append (headBytes (head 11 n 0)) (listed (ratings b) (ratings b) ms)
-        ∙ ap (λ (m : ℕ). m + length (listed (ratings b) (ratings b) ms)) (length-head (head 11 n 0))
+        sym (ap length answer-is) ∙ length-append (headBytes (head 11 n 0)) (listing b ms)
+        ∙ ap (λ (m : ℕ). m + length (listing b ms)) (length-head (head 11 n 0))
 
     module _ (h : T (sound b)) (a : Bytes) where
-      pub counts-refused : length a < 16 + length (listed (ratings b) (ratings b) ms) → Refuses (inLength (length a) counts) b b a a 30
+      pub counts-refused : length a < 16 + length (listing b ms) → Refuses (inLength (length a) counts) b b a a 30
       unfolding inLength counts _>>=_
       counts-refused l = record { stops = rw (lt-ltb (length a) (length (answerBytes answer)) (omega (arith, answer-length))); register = refl; answer = refl }
 
       pub counts-answered :
-          (c d : Bytes) (r m : ℕ) → 16 + length (listed (ratings b) (ratings b) ms) ≤ length a → Put a 16 (listed (ratings b) (ratings b) ms) r c →
+          (c d : Bytes) (r m : ℕ) → 16 + length (listing b ms) ≤ length a → Put a 16 (listing b ms) r c →
           Put c 0 (headBytes (head 11 n 0)) m d → Answers (inLength (length a) counts) b b a d r
       unfolding inLength counts
       counts-answered c d r m l p q =

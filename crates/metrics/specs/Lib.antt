@@ -1,7 +1,7 @@
+pub mod Meaning
 pub mod WalkLaws
 pub mod WorstLaws
 pub mod SummaryLaws
-pub mod Marks
 pub mod MarkLaws
 pub mod AmountLaws
 pub mod ListingLaws

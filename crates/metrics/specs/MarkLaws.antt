@@ -6,15 +6,14 @@ use mathlib.Core.Bool.{Bool, true, false, cond}
 use native.Mathlib.Numerals.{add-one}
 use native.Mathlib.Omega.{arith}
 use borrow.Author.Tests.{eq-eqb, ne-eqb}
-use lib.Dec.{T, eqb}
+use lib.Dec.{eqb}
 use lib.ListN.{length, take, drop, getD, set, length-set, take-append-drop}
 use lib.Seq.{take-suc, take-suc-set, drop-cons, drop-set-lt, take-at, drop-at, length-take-le}
 use Rattle.octets.specs.Bytes.{Bytes, zeros, at32}
 use Rattle.definition.specs.Chain.{those}
 use Rattle.definition.specs.Reports.{Rating, rating, sameRating, firstsFrom}
-use Rattle.definition.specs.Sound.{sound}
-use Rattle.metrics.specs.WalkLaws.{Reached, alarmAt, reached-next, reached-here, reached-end}
-use Rattle.metrics.specs.Marks.{ratings, marking, settled, fromPlace, unmarked}
+use Rattle.metrics.specs.Meaning.{Reached, ratings, ratingAt, marking, settled, fromPlace, unmarked}
+use Rattle.metrics.specs.WalkLaws.{reached-next, reached-here, reached-end}
 
 -- ---- the places without a mark are the first appearances
 
@@ -101,32 +100,34 @@ module _ (l : List Rating) (k : ℕ) where
 -- ---- walks that set marks
 
 -- the change f goes on from place k, at which the walk is, as from place j before: the marks were ms and are ns
-pub record Marked (b : Bytes) (f : List Rating → Bytes → Bytes) (ms ns : Bytes) (j k at : ℕ) : Type 0 where
-  pub reached : Reached b k at
+pub record Marked (b : Bytes) (f : List Rating → Bytes → Bytes) (ms ns : Bytes) (n j k at : ℕ) : Type 0 where
+  pub reached : Reached b n k at
   pub size : length ns ≡ length ms
+  pub room : n ≤ length ns
   pub same : fromPlace f k (ratings b) ns ≡ fromPlace f j (ratings b) ms
 
-pub marked-none : (b : Bytes) (f : List Rating → Bytes → Bytes) (ms : Bytes) (j at : ℕ) → Reached b j at → Marked b f ms ms j j at
-marked-none b f ms j at w = record { reached = w; size = refl; same = refl }
+pub marked-none : {b : Bytes} (f : List Rating → Bytes → Bytes) (ms : Bytes) {n j at : ℕ} → Reached b n j at → n ≤ length ms → Marked b f ms ms n j j at
+marked-none f ms w h = record { reached = w; size = refl; room = h; same = refl }
 
-module _ (b : Bytes) (h : T (sound b)) (ms ns : Bytes) (j k at : ℕ) where
+module _ {b : Bytes} (p : Rating) {ms ns : Bytes} {n j k at : ℕ} (w : Marked b (marking p) ms ns n j k at) where
   pub marked-place :
-      (p : Rating) → Marked b (marking p) ms ns j k at → k < at32 b 16 → k < length ns → (v r : ℕ) → v ≡ cond (sameRating (rating (alarmAt b at)) p) 1 (getD ns k 0) → r ≡ at32 b (1536 * at) →
-      Marked b (marking p) ms (set ns k v) j (k + 1) r
-  marked-place p w l room v r ev er =
+      k < n → {t : Bool} {v r : ℕ} → t ≡ sameRating (ratingAt b at) p → v ≡ cond t 1 (getD ns k 0) → r ≡ at32 b (1536 * at) → Marked b (marking p) ms (set ns k v) n j (k + 1) r
+  marked-place l {t} {v} et ev er =
       record {
-        reached = reached-next b h k at (w .reached) l r er;
+        reached = reached-next (w .reached) l er;
         size = length-set ns k v ∙ w .size;
-        same = marking-next (ratings b) k (rating (alarmAt b at)) (reached-here b h k at (w .reached) l rating) ns room p v ev ∙ w .same;
+        room = omega (arith, length-set ns k v, w .room);
+        same = marking-next (ratings b) k (ratingAt b at) (reached-here (w .reached) l rating) ns (omega (arith, w .room)) p v (rw et at ev) ∙ w .same;
       }
 
-  pub marked-all : (p : Rating) → Marked b (marking p) ms ns j k at → at32 b 16 ≤ k → ns ≡ fromPlace (marking p) j (ratings b) ms
-  marked-all p w l = sym (marking-end (ratings b) k p ns (reached-end b h rating k l)) ∙ w .same
+  pub marked-all : n ≤ k → ns ≡ fromPlace (marking p) j (ratings b) ms
+  marked-all l = sym (marking-end (ratings b) k p ns (reached-end (w .reached) rating l)) ∙ w .same
 
+module _ {b ms ns : Bytes} {n j k at : ℕ} (w : Marked b settled ms ns n j k at) where
   pub settled-place :
-      Marked b settled ms ns j k at → k < at32 b 16 → (os : Bytes) (r : ℕ) → length os ≡ length ns → fromPlace settled (k + 1) (ratings b) os ≡ fromPlace settled k (ratings b) ns → r ≡ at32 b (1536 * at) →
-      Marked b settled ms os j (k + 1) r
-  settled-place w l os r size e er = record { reached = reached-next b h k at (w .reached) l r er; size = size ∙ w .size; same = e ∙ w .same }
+      k < n → {os : Bytes} {r : ℕ} → length os ≡ length ns → fromPlace settled (k + 1) (ratings b) os ≡ fromPlace settled k (ratings b) ns → r ≡ at32 b (1536 * at) →
+      Marked b settled ms os n j (k + 1) r
+  settled-place l size e er = record { reached = reached-next (w .reached) l er; size = size ∙ w .size; room = omega (arith, w .room); same = e ∙ w .same }
 
-  pub settled-all : Marked b settled ms ns j k at → at32 b 16 ≤ k → ns ≡ fromPlace settled j (ratings b) ms
-  settled-all w l = sym (settled-end (ratings b) k ns (reached-end b h rating k l)) ∙ w .same
+  pub settled-all : n ≤ k → ns ≡ fromPlace settled j (ratings b) ms
+  settled-all l = sym (settled-end (ratings b) k ns (reached-end (w .reached) rating l)) ∙ w .same

@@ -14,7 +14,8 @@ use Rattle.definition.specs.Reports.{worst, impact, worstImpact, severityOf, se
 use Rattle.definition.specs.Sound.{station, sound}
 use Rattle.definition.specs.SoundLaws.{sound-holds}
 use Rattle.definition.specs.ChainLaws.{length-map}
-use Rattle.metrics.specs.WalkLaws.{Reached, alarmAt, activeAlarms, alarms-length, reached-first, reached-next, reached-here, reached-end}
+use Rattle.metrics.specs.Meaning.{Reached, alarmAt, activeAlarms}
+use Rattle.metrics.specs.WalkLaws.{reached-next, reached-here, reached-end}
 
 -- the highest, 0 for none
 unfoldable pub highest : List ℕ → ℕ
@@ -71,32 +72,29 @@ impact-worst b h = go (station b .active) (sound-holds b h .legal .fields .activ
 
 -- ---- the walk
 
--- k records are passed, and `high` is the highest severity among them
-pub record Passed (b : Bytes) (k at high : ℕ) : Type 0 where
-  pub reached : Reached b k at
+-- of n records k are passed, and `high` is the highest severity among them
+pub record Passed (b : Bytes) (n k at high : ℕ) : Type 0 where
+  pub reached : Reached b n k at
   pub same : max high (highest (drop k (severities (station b)))) ≡ highest (severities (station b))
 
-module _ (b : Bytes) (h : T (sound b)) where
-  held : at32 b 16 ≡ length (severities (station b))
-  held = alarms-length b h ∙ sym (length-map severityOf (activeAlarms b))
+-- where there is no alarm
+pub none-worst : {b : Bytes} {n at : ℕ} → Reached b n 0 at → n ≡ 0 → 255 ≡ worst (severities (station b))
+none-worst {b} w e = sym (worst-none (severities (station b)) (omega (arith, w .held, length-map severityOf (activeAlarms b))))
 
-  pub none-active : at32 b 16 ≡ 0 → 255 ≡ worst (severities (station b))
-  none-active e = sym (worst-none (severities (station b)) (sym held ∙ e))
+pub passed-none : {b : Bytes} {n at : ℕ} → Reached b n 0 at → Passed b n 0 at 0
+passed-none w = record { reached = w; same = omega arith }
 
-  pub passed-none : (at : ℕ) → at ≡ at32 b 12 → Passed b 0 at 0
-  passed-none at e = record { reached = reached-first b h at e; same = omega arith }
+module _ {b : Bytes} {n k at high : ℕ} (p : Passed b n k at high) where
+  pub passed-next : k < n → {v w r : ℕ} → v ≡ alarmAt b at .severity → w ≡ max high v → r ≡ at32 b (1536 * at) → Passed b n (k + 1) r w
+  passed-next l ev ew er =
+      record {
+        reached = reached-next (p .reached) l er;
+        same =
+            rw (ew, ev) (sym (highest-next high (alarmAt b at .severity) (drop (k + 1) (severities (station b))))
+            ∙ ap (λ (t : List ℕ). max high (highest t)) (sym (reached-here (p .reached) l severityOf)) ∙ p .same);
+      }
 
-  module _ (k at high : ℕ) (p : Passed b k at high) where
-    pub passed-next : k < at32 b 16 → (v w r : ℕ) → v ≡ alarmAt b at .severity → w ≡ max high v → r ≡ at32 b (1536 * at) → Passed b (k + 1) r w
-    passed-next l v w r ev ew er =
-        record {
-          reached = reached-next b h k at (p .reached) l r er;
-          same =
-              rw (ew, ev) (sym (highest-next high (alarmAt b at .severity) (drop (k + 1) (severities (station b))))
-              ∙ ap (λ (t : List ℕ). max high (highest t)) (sym (reached-here b h k at (p .reached) l severityOf)) ∙ p .same);
-        }
-
-    pub passed-all : 1 ≤ at32 b 16 → at32 b 16 ≤ k → high ≡ worst (severities (station b))
-    passed-all some-active l =
-        sym (highest-none high) ∙ ap (λ (t : List ℕ). max high (highest t)) (sym (reached-end b h severityOf k l)) ∙ p .same
-        ∙ sym (worst-some (severities (station b)) (omega (arith, held)))
+  pub passed-all : (n ≡ 0 → ⊥) → n ≤ k → high ≡ worst (severities (station b))
+  passed-all z l =
+      sym (highest-none high) ∙ ap (λ (t : List ℕ). max high (highest t)) (sym (reached-end (p .reached) severityOf l)) ∙ p .same
+      ∙ sym (worst-some (severities (station b)) (omega (arith, z, p .reached .held, length-map severityOf (activeAlarms b))))

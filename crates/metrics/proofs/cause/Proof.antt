@@ -1,6 +1,5 @@
 -- `cause`: the field of the payload.
 use mathlib.Core.Path.{_∙_, ap}
-use lib.ListN.{length}
 use Rattle.octets.specs.Bytes.{Bytes}
 use Rattle.definition.specs.Record.{readAlarm}
 use Rattle.metrics.specs.WalkLaws.{payload-width}
@@ -9,7 +8,7 @@ use Rattle.metrics.proofs.cause.Statement.{statement}
 use Rattle.metrics.proofs.cause.Tie as tie
 
 cause-requires : tie.Need-cause-requires
-cause-requires c κs = ap length (c .payload .ensures) ∙ payload-width _ _ (c .before .before .pre)
+cause-requires c κs = payload-width _ _ (c .before .before .pre) (c .payload .ensures)
 
 returns : tie.Need-returns
 returns c = c .cause .ensures ∙ ap (λ (p : Bytes). readAlarm p .about .cause) (c .before .payload .ensures)

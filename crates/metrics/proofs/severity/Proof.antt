@@ -1,6 +1,5 @@
 -- `severity`: the field of the payload.
 use mathlib.Core.Path.{_∙_, ap}
-use lib.ListN.{length}
 use Rattle.octets.specs.Bytes.{Bytes}
 use Rattle.definition.specs.Record.{readAlarm}
 use Rattle.metrics.specs.WalkLaws.{payload-width}
@@ -9,7 +8,7 @@ use Rattle.metrics.proofs.severity.Statement.{statement}
 use Rattle.metrics.proofs.severity.Tie as tie
 
 severity-requires : tie.Need-severity-requires
-severity-requires c κs = ap length (c .payload .ensures) ∙ payload-width _ _ (c .before .before .pre)
+severity-requires c κs = payload-width _ _ (c .before .before .pre) (c .payload .ensures)
 
 returns : tie.Need-returns
 returns c = c .severity .ensures ∙ ap (λ (p : Bytes). readAlarm p .severity) (c .before .payload .ensures)
