@@ -20,10 +20,10 @@ run: lib
 	@examples/run
 
 # The Rust is looked for in ../shared/docs/src; `make compare ARGS='--rust FOLDER --seed N --calls N'` takes other arguments.
-compare:
+compare: lib
 	@python3 -B compare/run $(ARGS)
 
-bench:
+bench: lib
 	@python3 -B compare/bench $(ARGS)
 
 fmt:

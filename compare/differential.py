@@ -180,17 +180,35 @@ def checked(case, tools, tally):
             raise Difference(place, fault)
 
 
+# ---- what calls gave
+
+# the codes that each operation's answers have
+CODES = {1: (1, 2, 5), 2: (3, 4), 3: (7, 8, 10), 4: (6, 8, 10), 5: (7, 8, 9, 10), 6: (6, 8, 9, 10)} | {op: (11,) for op in range(7, 13)}
+ANSWERS = [f"operation {op} code {code}" for op, codes in CODES.items() for code in codes]
+
+
+def refusals(first):
+    """The refusals from this number on, but for 32, which no sound register gives."""
+    return [f"number {number}" for number in range(first, 32)]
+
+
+def result_name(order, outcome):
+    """The refusal's number, or operation and code; None for an opening that is not refused."""
+    if outcome.number:
+        return f"number {outcome.number}"
+    return f"operation {order.call[0]} code {outcome.answer[0]}" if isinstance(order, Step) else None
+
+
 def counted(orders, tools, tally):
-    """The outcomes, each counted by its number or code."""
+    """The outcomes, each counted by its name."""
     by_rust = bool(tools.oracle) and for_the_rust(orders)
     for order, outcome in zip(orders, outcomes(orders, tools)):
         if isinstance(order, Step):
             tally["calls"] += 1
             tally["calls that the Rust made"] += by_rust
-        if outcome.number:
-            tally[f"number {outcome.number}"] += 1
-        elif isinstance(order, Step):
-            tally[f"operation {order.call[0]} code {outcome.answer[0]}"] += 1
+        name = result_name(order, outcome)
+        if name:
+            tally[name] += 1
         yield outcome
 
 

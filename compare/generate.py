@@ -162,7 +162,7 @@ def damaged(rng, data):
 def from_registers(rng, count):
     """Calls on forged and on damaged registers."""
     orders = []
-    for _ in range(count // 8):
+    for _ in range(-(-count // 8)):
         given = limits(rng)
         register = forged(rng, *given)
         if rng.random() < 0.5:

@@ -1,25 +1,41 @@
 """The programs that are compared and measured: built where what they need is there."""
 import pathlib
+import shutil
 import subprocess
 
 HERE = pathlib.Path(__file__).resolve().parent
-LIBRARY = HERE.parent / "target/staticlib/libstation.a"
+ROOT = HERE.parent
+LIBRARY = ROOT / "target/staticlib/libstation.a"
 
 
 class Missing(Exception):
     """What a program needs is not there; the text says what."""
 
 
+def need(*tools):
+    for tool in tools:
+        if not shutil.which(tool):
+            raise Missing(f"{tool} is not on this machine")
+
+
+def library():
+    """Builds the register's library where it is not there; `make lib` builds it anew after a change."""
+    if not LIBRARY.exists():
+        need("rt")
+        subprocess.run(["rt", "staticlib", "station"], cwd=ROOT, check=True, stdout=subprocess.DEVNULL)
+
+
 def driver():
     """The path of the program that steps the register."""
-    if not LIBRARY.exists():
-        raise Missing(f"{LIBRARY} is not there (rt staticlib station)")
+    need("cargo", "cc")
+    library()
     subprocess.run(["cargo", "build", "--offline", "--release", "--quiet", "-j1"], cwd=HERE / "driver", check=True)
     return str(HERE / "driver/target/release/driver")
 
 
 def oracle(folder=None):
     """The path of the program that steps the Rust; its six files are in the folder."""
+    need("cargo", "cc")
     done = subprocess.run([HERE / "oracle/build.sh", *([folder] if folder else [])], stdout=subprocess.PIPE, stderr=subprocess.PIPE, text=True)
     if done.returncode == 3:
         raise Missing(done.stderr.strip())
@@ -30,8 +46,8 @@ def oracle(folder=None):
 
 def soundness():
     """The path of the program that measures the check of soundness alone."""
-    if not LIBRARY.exists():
-        raise Missing(f"{LIBRARY} is not there (rt staticlib station)")
-    program = HERE.parent / "target/soundness"
-    subprocess.run(["gcc", "-O2", "-Wall", "-Wextra", HERE.parent / "bench/soundness.c", LIBRARY, "-o", program], check=True)
+    need("cc")
+    library()
+    program = ROOT / "target/soundness"
+    subprocess.run(["cc", "-O2", "-Wall", "-Wextra", ROOT / "bench/soundness.c", LIBRARY, "-o", program], check=True)
     return str(program)

@@ -1,0 +1,197 @@
+#!/usr/bin/env python3
+"""Recorded lists: crates/lists_replay/stdin holds lists of calls, and stdout what the Rust answers to them, in document 01's bytes.
+
+compare/recorded.py                  checks the two files; the last line is 'N passed, M failed'
+compare/recorded.py write [FOLDER]   writes them; FOLDER holds the six Rust files, as for compare/oracle/build.sh
+
+A line of stdout is the number, the answer's length, and the SHA-256 of the answer's bytes. The Rust's answers fix all bytes of an answer
+but the order of what a HashMap holds: that is document 01's, the order in which alarms were raised.
+"""
+import hashlib
+import json
+import random
+import sys
+
+import imports  # noqa: F401  (finds the list of checks)
+import generate
+import model
+import programs
+from checklist import Skip, run
+from differential import ANSWERS, modelled, ran, refusals, result_name
+from orders import Open, Step, written
+from original import EXPIRED, Original
+from records import ROOT, WIDTH, alarm_record, event_record
+from standin import read
+
+STDIN, STDOUT = (ROOT / "crates/lists_replay" / name for name in ("stdin", "stdout"))
+LISTS, CALLS, SEED = 60, 30, 1
+# what the program has room for
+MOST_RECORDS, MOST_ANSWER, MOST_CALL = 12, 13 * WIDTH, 4096
+
+
+def row(number, answer):
+    return f"{number} {len(answer)} {hashlib.sha256(answer).hexdigest()}\n"
+
+
+# ---- the Rust's answers in document 01's bytes
+
+def sent(value):
+    """A printed value as the value of a field."""
+    if isinstance(value, list):
+        return tuple(map(sent, value))
+    return value.encode() if isinstance(value, str) else value
+
+
+def alarm_bytes(shown):
+    alarm = {name: sent(value) for name, value in shown.items()}
+    details = None if shown["details"] is None else bytes.fromhex(shown["details"])
+    return alarm_record(alarm | {"key": bytes.fromhex(shown["key"]), "details": details})
+
+
+def event_bytes(shown):
+    return event_record({name: sent(value) for name, value in shown.items()})
+
+
+def entry_name(entry):
+    return json.dumps(entry, sort_keys=True)
+
+
+class Cut(Exception):
+    """History's limit has cut a run that was expired together: which of its alarms the Rust has left is chance."""
+
+
+class Recorder:
+    """Follows the Rust on one list, to know the order in which alarms were raised and expired."""
+
+    def __init__(self):
+        self.raised, self.expired, self.original = [], {}, Original()
+
+    def follow(self, state):
+        """Notes which alarms are active after a call, and which of those before it have expired."""
+        keys = [alarm["key"] for alarm in state["active"]]
+        gone = [key for key in self.raised if key not in keys]
+        latest = max((place for place, _ in self.expired.values()), default=0) + 1
+        for entry in state["history"]:
+            if entry["state"] == EXPIRED and entry["key"] in gone:
+                self.expired.setdefault(entry_name(entry), (latest, gone.index(entry["key"])))
+        self.raised = [key for key in self.raised if key in keys] + [key for key in keys if key not in self.raised]
+
+    def in_order(self, run_):
+        return sorted(run_, key=lambda entry: self.expired[entry_name(entry)])
+
+    def history(self, entries):
+        """Entries, of which runs that one call expired come to stand in the order in which their alarms were raised."""
+        found, run_ = [], []
+        for entry in entries:
+            if run_ and (entry["state"] != EXPIRED or entry["cleared_at"] != run_[0]["cleared_at"]):
+                found, run_ = found + self.in_order(run_), []
+            (run_ if entry["state"] == EXPIRED else found).append(entry)
+        return found + self.in_order(run_)
+
+    def active(self, alarms):
+        return sorted(alarms, key=lambda alarm: self.raised.index(alarm["key"]))
+
+    def counts(self, entries, state):
+        """Severity, number and cause, in the order in which the pairs first appear among the active alarms."""
+        pairs = [(alarm["severity"], alarm["cause"]) for alarm in self.active(state["active"])]
+        entries = sorted(entries, key=lambda entry: pairs.index((entry[0], entry[2])))
+        return b"".join(bytes([severity]) + model.u32(n) + model.string(cause.encode()) for severity, n, cause in entries)
+
+    def body(self, op, said, state):
+        if "alarm" in said:
+            return alarm_bytes(said["alarm"])
+        if "alarms" in said:
+            return b"".join(map(alarm_bytes, (self.history if op == 9 else self.active)(said["alarms"])))
+        if "events" in said:
+            return b"".join(map(event_bytes, said["events"]))
+        if "counts" in said:
+            return self.counts(said["counts"], state)
+        if op == 11:
+            worst = max((alarm["severity"] for alarm in state["active"]), default=255)
+            readiness = max((alarm["readiness"] for alarm in state["active"]), default=0)
+            return bytes([worst, readiness]) + b"".join(state[name].to_bytes(8, "big") for name in ("successes", "failures"))
+        texts = [said[name].encode() for name in ("id", "cause", "message") if name in said]
+        return said.get("key", "").encode() + b"".join(map(model.string, texts))
+
+    def line(self, order, printed):
+        if printed == "opened":
+            return row(0, b"")
+        if printed.startswith("refused "):
+            return row(int(printed.split()[1]), b"")
+        said = json.loads(printed)
+        state = said.pop("state")
+        if self.original.cut(order.call, state):
+            raise Cut
+        self.follow(state)
+        return row(0, model.answer_of(said["code"], self.body(order.call[0], said, state), said["count"], said["number"]))
+
+
+# ---- lists
+
+def small_enough(orders):
+    records = sum(orders[0].limits)
+    return records <= MOST_RECORDS and all(len(order.call) <= MOST_CALL for order in orders[1:])
+
+
+def some_list(rng):
+    """A list by chance that the program has room for, with reports at its end."""
+    while True:
+        orders = generate.fresh(rng, CALLS)
+        if all(isinstance(order, (Open, Step)) for order in orders) and small_enough(orders):
+            orders += [Step(generate.call(op), MOST_ANSWER) for op in (8, 9, 10, 11)]
+            return orders[:1] + [order._replace(room=min(order.room, MOST_ANSWER)) for order in orders[1:]]
+
+
+def recorded(oracle):
+    """Lists of calls, and the line of each order by the Rust."""
+    rng, orders, lines, lists = random.Random(SEED), [], [], 0
+    while lists < LISTS:
+        found, recorder = some_list(rng), Recorder()
+        try:
+            lines += [recorder.line(order, printed) for order, printed in zip(found, ran(oracle, found).decode().splitlines(), strict=True)]
+        except Cut:
+            continue
+        orders += found
+        lists += 1
+    return written(orders), "".join(lines)
+
+
+# ---- checks
+
+def by_model(_root):
+    orders, lines = list(read(STDIN.read_bytes())), STDOUT.read_text().splitlines(True)
+    for place, (outcome, line) in enumerate(zip(modelled(orders), lines, strict=True)):
+        if row(outcome.number, bytes(outcome.answer[:outcome.length])) != line:
+            yield f"order {place}: number {outcome.number} and length {outcome.length}, recorded: {line.strip()}"
+
+
+def every_result(_root):
+    """The lists meet every code, and every refusal that a call can meet on a sound register."""
+    orders = list(read(STDIN.read_bytes()))
+    met = {result_name(order, outcome) for order, outcome in zip(orders, modelled(orders))}
+    yield from (f"no order gives {name}" for name in refusals(23) + ANSWERS if name not in met)
+
+
+def by_rust(_root):
+    try:
+        oracle = programs.oracle()
+    except programs.Missing as reason:
+        raise Skip(reason)
+    if recorded(oracle) != (STDIN.read_bytes(), STDOUT.read_text()):
+        yield "the files are not those that `write` makes"
+
+
+CHECKS = {"the model gives what is recorded": by_model, "every number and code is recorded": every_result, "the Rust gives what is recorded": by_rust}
+
+
+def main():
+    if sys.argv[1:2] == ["write"]:
+        orders, lines = recorded(programs.oracle(*sys.argv[2:3]))
+        STDIN.write_bytes(orders)
+        STDOUT.write_text(lines)
+        return 0
+    return run("recorded", CHECKS)
+
+
+if __name__ == "__main__":
+    sys.exit(main())
