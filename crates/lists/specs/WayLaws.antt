@@ -19,10 +19,6 @@ use Rattle.definition.specs.Sound.{bookOf, stationOf, station, sound}
 use Rattle.definition.specs.SoundLaws.{sound-holds}
 use Rattle.lists.specs.Meaning.{WholeAlarm, alarmOf}
 
--- the header lies in a sound register
-pub header-room : (b : Bytes) → T (sound b) → 1536 ≤ length b
-header-room b h = omega (arith, length-sound b (sound-holds b h .book))
-
 -- a sound register's chain x, active or history: n records from i on
 pub record Way (b : Bytes) (x n i : ℕ) : Type 0 where
   pub whole : T (sound b)

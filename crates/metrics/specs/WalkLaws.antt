@@ -25,9 +25,6 @@ pub payload-width : (b : Bytes) (i : ℕ) {p : Bytes} → Fits b i → p ≡ rec
 payload-width b i h e = ap length e ∙ part-length b (1536 * i + 4) 1532 (omega arith)
 
 module _ (b : Bytes) (h : T (sound b)) where
-  pub header-room : 1536 ≤ length b
-  header-room = omega (arith, length-sound b (sound-holds b h .book))
-
   alarms-length : at32 b 16 ≡ length (activeAlarms b)
   alarms-length = active-length b h ∙ sym (length-map _ (station b .active))
 

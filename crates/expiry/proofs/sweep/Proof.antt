@@ -4,9 +4,7 @@ use Prim.Native.Nat.{_+_, _-_, _*_, _≤_}
 use native.Mathlib.Omega.{arith}
 use borrow.Author.Needs.{needs}
 use lib.ListN.{length}
-use denote.Ref.{now}
-use Rattle.definition.specs.BookSoundLaws.{length-sound}
-use Rattle.definition.specs.SoundLaws.{sound-holds}
+use Rattle.history.specs.HeldLaws.{header-room}
 use Rattle.expiry.specs.Sweep.{Sweep}
 use Rattle.expiry.specs.SweepLaws.{sweep-start, meets-fits, meets-free, sweep-end}
 use Rattle.expiry.proofs.sweep.Statement.{statement}
@@ -18,14 +16,11 @@ Inv-loop register₀ last cutoff n at₀ s₀ k₀ register at s k = Sweep cutof
 abbrev μ-loop : tie.MeasureT-loop
 μ-loop register₀ last cutoff n at₀ s₀ k₀ register at s k = n - k
 
-header : (s : tie.Start Inv-loop μ-loop) → 1536 ≤ length (now (s .args .register))
-header s = omega (arith, length-sound (now (s .args .register)) (sound-holds _ (s .pre .whole) .book))
-
 get32-requires : tie.Need-get32-requires Inv-loop μ-loop
-get32-requires c κs = omega (arith, header (c .before .before))
+get32-requires c κs = omega (arith, header-room _ (c .before .before .pre .whole))
 
 get32-requires-2 : tie.Need-get32-requires-2 Inv-loop μ-loop
-get32-requires-2 c κs = omega (arith, header (c .before .before .before .before))
+get32-requires-2 c κs = omega (arith, header-room _ (c .before .before .before .before .pre .whole))
 
 loop-holds : tie.Need-loop-holds Inv-loop μ-loop
 loop-holds c =

@@ -1,6 +1,6 @@
 -- `summary`: the numbers of the header, and the worst severity.
 use native.Mathlib.Omega.{arith}
-use Rattle.metrics.specs.WalkLaws.{header-room}
+use Rattle.history.specs.HeldLaws.{header-room}
 use Rattle.metrics.specs.SummaryLaws.{summarised}
 use borrow.Author.Needs.{needs}
 use Rattle.metrics.proofs.summary.Statement.{statement}

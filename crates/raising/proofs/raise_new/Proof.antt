@@ -1,26 +1,20 @@
 -- `raise_new`: a full chain is answered with its limit.
 use mathlib.Core.Path.{_∙_}
-use Prim.Native.Nat.{_≤_}
 use native.Mathlib.Omega.{arith}
 use borrow.Author.Needs.{needs}
-use lib.ListN.{length}
 use denote.Ref.{now}
-use Rattle.definition.specs.BookSoundLaws.{length-sound}
-use Rattle.definition.specs.SoundLaws.{sound-holds}
 use Rattle.definition.specs.HistoryLaws.{active-limit, active-length}
+use Rattle.history.specs.HeldLaws.{header-room}
 use Rattle.raise.specs.Meaning.{raiseValue}
 use Rattle.raising.specs.RaiseLaws.{limit-met, has-room}
 use Rattle.raising.proofs.raise_new.Statement.{statement}
 use Rattle.raising.proofs.raise_new.Tie as tie
 
-header : (s : tie.Start) → 1536 ≤ length (now (s .args .register))
-header s = omega (arith, length-sound (now (s .args .register)) (sound-holds _ (s .pre .0 .newest .whole) .book))
-
 get32-requires : tie.Need-get32-requires
-get32-requires c κs = omega (arith, header (c .before .before .before .before .before))
+get32-requires c κs = omega (arith, header-room _ (c .before .before .before .before .before .pre .0 .newest .whole))
 
 get32-requires-2 : tie.Need-get32-requires-2
-get32-requires-2 c κs = omega (arith, header (c .before .before .before .before .before .before .before))
+get32-requires-2 c κs = omega (arith, header-room _ (c .before .before .before .before .before .before .before .pre .0 .newest .whole))
 
 returns : tie.Need-returns
 returns c =
