@@ -1,4 +1,4 @@
-# make test: all tests. make run: the examples, from the static library on. make lib: the static library alone.
+# make test: all tests. make run: the examples, from a clone to the page of the book. make lib: the static library alone.
 # make compare: the long comparison with the model and the Rust. make bench: the register and the Rust measured side by
 # side. make fmt: the layout of every Rattle and antt file.
 .PHONY: test lib run compare bench fmt
@@ -12,11 +12,11 @@ LIBRARY = target/staticlib/libstation.a
 lib: $(LIBRARY)
 
 $(LIBRARY): crates.txt $(shell find crates -name '*.rt' -o -name '*.antt')
-	@echo "== Proving the register and compiling it: rt staticlib station (some minutes the first time)"
+	@echo "== Proving the register and compiling it: rt staticlib station (many minutes the first time)"
 	@rt staticlib station
 	@touch $@
 
-run: lib
+run:
 	@examples/run
 
 # The Rust is looked for in ../shared/docs/src; `make compare ARGS='--rust FOLDER --seed N --calls N'` takes other arguments.

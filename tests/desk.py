@@ -13,22 +13,21 @@ import tempfile
 
 from checklist import HERE, Skip, run
 
-LIBRARY = HERE / "target/staticlib/libstation.a"
-STATION = HERE / "rust/target/debug/station"
+STATION = HERE / "rust/target/release/station"
 COMMANDS = ("write", "read", "replay", "recount", "twin", "check")
 WORK = pathlib.Path(tempfile.mkdtemp(prefix="desk"))
 DAY, MONTH = WORK / "day.calls", WORK / "month.calls"
+HELP_WIDTH, PAGE_WIDTH = 83, 99
 
 
 def ready():
-    """Builds the static library where it is not there; skips where this machine cannot link programs."""
+    """Makes the static library where it is not there or is older than its sources; skips where programs cannot be linked."""
     for tool in ("cargo", "cc"):
         if not shutil.which(tool):
             raise Skip(f"{tool} is not on this machine")
-    if not LIBRARY.exists():
-        if not (HERE / "crates/station").exists():
-            raise Skip("there is no crate station yet")
-        subprocess.run(["rt", "staticlib", "station"], cwd=HERE, check=True, stdout=subprocess.DEVNULL)
+    made = subprocess.run(["make", "lib"], cwd=HERE, stdout=subprocess.PIPE, stderr=subprocess.STDOUT, text=True)
+    if made.returncode:
+        raise ValueError(f"make lib: {made.stdout[-500:]}")
 
 
 def without_library():
@@ -37,7 +36,7 @@ def without_library():
 
 
 def cargo(*words, **variables):
-    words = ["cargo", *words, "--offline", "--quiet", "--manifest-path", HERE / "rust/Cargo.toml"]
+    words = ["cargo", *words, "--release", "--offline", "--quiet", "--manifest-path", HERE / "rust/Cargo.toml"]
     environment = {**without_library(), **variables}
     return subprocess.run(words, stdout=subprocess.PIPE, stderr=subprocess.STDOUT, text=True, env=environment)
 
@@ -73,6 +72,14 @@ def with_program(check):
     return go
 
 
+def too_wide(name, printed, width):
+    """The first line of what was printed that is wider than it may be."""
+    for line in printed.decode().splitlines():
+        if len(line) > width:
+            yield f"{name}: {len(line)} columns: {line}"
+            return
+
+
 def saved(name, data):
     path = WORK / name
     path.write_bytes(data.encode() if isinstance(data, str) else data)
@@ -100,7 +107,9 @@ def library_missing(_root):
 def helped(_root):
     """--help tells of each command, with its exit statuses; a command line that is not understood is told in a sentence."""
     for words in [["--help"], *([command, "--help"] for command in COMMANDS)]:
-        if b"Exit status" not in works(*words):
+        said = works(*words)
+        yield from too_wide(words, said, HELP_WIDTH)
+        if b"Exit status" not in said:
             yield f"{words} has no exit statuses"
     yield from ends(2, "no command is given")
     yield from ends(2, "there is no command wriet", "wriet", "x")
@@ -188,6 +197,22 @@ def page(_root):
     yield from ends(2, "--csv needs --only", "replay", DAY, "--csv")
     yield from ends(2, "--only takes one of active, history", "replay", DAY, "--only", "everything")
     yield from ends(4, "cannot write", "replay", DAY, "-o", WORK / "nowhere/day.register")
+
+
+def narrow(_root):
+    """No page is wider than it may be, however long the fields are, and the longest of them lose nothing."""
+    names = [f"{letter}" * 64 for letter in "BFGHJKNOP"]
+    raised = '2026-12-24 23:59:58.123456789 raise id={0} type={1} severity=indeterminate cause=other:{2}.x object=queue({3},{4},65535)'
+    raised += ' tenant={5} slice={6} region={7} text="' + "Q" * 256 + '"'
+    acted = "2026-12-24 23:59:59.123456789 acknowledge-with-policy id={0} principal={1} tenant={2} scope=tenant({3}) correlation={4}"
+    acted += " critical-allowed=no authorised=yes reason=" + "r" * 256
+    text = "limits active=1 history=2 audit=1\n" + raised.format(*names) + "\n" + acted.format(*names) + "\n"
+    calls = saved("wide.calls", works("write", "-", given=text))
+    for name, printed in (("wide", works("replay", calls)), ("day", works("replay", DAY)), ("recount", works("recount", calls))):
+        yield from too_wide(name, printed, PAGE_WIDTH)
+    active = works("replay", calls, "--only", "active").decode()
+    if active.count("Q") != 256 or active.count("O") != 64 or "24 Dec 2026" not in active:
+        yield f"a wide row lost something: {active}"
 
 
 def steered(_root):
@@ -319,6 +344,7 @@ USES = {
     "faults of texts": text_faults,
     "faults of lists": list_faults,
     "the page, JSON and CSV": page,
+    "pages are narrow enough": narrow,
     "texts do not steer": steered,
     "reports are recounted": recounted,
     "faults of reports": report_faults,

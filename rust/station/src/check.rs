@@ -1,24 +1,26 @@
 //! `station check`: whether a file holds a sound register.
 use crate::examine::{self, Finding};
-use crate::failure::{Failure, FINE, FOUND};
+use crate::failure::{named, Failure, FINE, FOUND};
 use crate::files;
 use crate::options::{Form, Options};
-use crate::table::{column, json_object, Cell, Table};
+use crate::table::{column, json_object, numbers, Cell, Table};
 use alarm_register::Register;
 
 pub const HELP: &str = "\
 station check REGISTER [--json | --csv]
 
-Says whether the bytes of REGISTER (or - for standard input) are a sound register. The verdict is the register's own: not
-sound is what every call on these bytes is refused with, number 22. If they are not sound, a list of places follows
-where a person should look. The list is a help outside the proof: the verdict does not rest on it.
+Says whether the bytes of REGISTER (or - for standard input) are a sound register.
+The verdict is the register's own: where it is not sound, every call is refused
+with number 22. Then a list of places follows where a person should look. That
+list is a help outside the proof, and the verdict does not rest on it.
 
-Bytes are counted from the file's start, records from 0, the header; docs/LAYOUT.md names each field.
-`station replay LIST -o REGISTER` writes such a file.
+Bytes are counted from the file's start; record 0 is the header. docs/LAYOUT.md
+names each field. `station replay LIST -o REGISTER` writes such a file.
 
   --json, --csv   the verdict and the places for scripts; CSV has the places alone
 
-Exit status: 0 sound, 1 not sound, 2 command line not understood, 4 the file cannot be read.
+Exit status: 0 sound, 1 not sound, 2 the command line is not understood, 4 a file
+cannot be read or written.
 ";
 
 /// How many places a page lists.
@@ -30,8 +32,8 @@ pub fn command(options: &Options) -> Result<u8, Failure> {
     let findings = if sound { Vec::new() } else { examine::register(&bytes) };
     let table = table(&findings);
     let shown = match options.form {
-        Form::Page if sound => format!("{}: a sound register with room for {}.\n", options.file, contents(&mut bytes)),
-        Form::Page => unsound(&options.file, &table),
+        Form::Page if sound => format!("{}: a sound register.\n{}\n", named(&options.file), contents(&mut bytes)),
+        Form::Page => unsound(&named(&options.file), &table),
         Form::Csv => table.csv(),
         Form::Json => json_object(&[("sound", sound.to_string()), ("places", table.json())]),
     };
@@ -43,7 +45,9 @@ pub fn command(options: &Options) -> Result<u8, Failure> {
 fn contents(bytes: &mut [u8]) -> String {
     let [active, history, audit, free] = examine::lengths(bytes);
     let limits = Register::over(bytes).limits().map(|limits| limits.to_string()).unwrap_or_default();
-    format!("{limits}; it holds {active} active, {history} in history, {audit} in audit, and {free} records are free")
+    format!(
+        "It has room for {limits}.\nIt holds {active} active, {history} in history, {audit} in audit; {free} records are free."
+    )
 }
 
 fn unsound(file: &str, table: &Table) -> String {
@@ -65,7 +69,7 @@ fn unsound(file: &str, table: &Table) -> String {
 }
 
 fn columns() -> Table {
-    let columns = vec![column("record"), column("byte"), column("what")];
+    let columns = vec![numbers("record"), numbers("byte"), column("what")];
     Table { name: "places", title: "WHERE TO LOOK".to_string(), columns, rows: Vec::new() }
 }
 

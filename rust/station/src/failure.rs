@@ -47,7 +47,7 @@ impl Failure {
 }
 
 /// How a file is named to people: `-` is standard input.
-fn named(file: &str) -> String {
+pub fn named(file: &str) -> String {
     if file == "-" {
         return "standard input".to_string();
     }

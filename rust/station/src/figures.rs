@@ -1,6 +1,6 @@
 //! The figures of a list of calls, and of a report that is to be recounted.
 use crate::replay::{Machine, Tally};
-use crate::table::{column, Cell, Table};
+use crate::table::{column, numbers, Cell, Table};
 use alarm_register::{code_name, CountActive, ListHistory, Operation, Refusal, Summarise, TakeAudit};
 
 /// A figure: its name and its value.
@@ -54,7 +54,7 @@ pub fn table(figures: &[Figure]) -> Table {
     Table {
         name: "figures",
         title: "FIGURES OF THE RAW CALLS".to_string(),
-        columns: vec![column("figure"), column("value")],
+        columns: vec![column("figure"), numbers("value")],
         rows,
     }
 }

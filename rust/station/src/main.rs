@@ -11,6 +11,7 @@ mod progress;
 mod record;
 mod recount;
 mod replay;
+mod ruled;
 mod table;
 mod tables;
 mod text;
@@ -24,47 +25,63 @@ use std::process::ExitCode;
 const HELP: &str = "\
 station COMMAND FILE [OPTIONS]
 
-Keeps the calls of a station alarm register as files, runs them, and recounts reports. `station COMMAND --help` says more.
+Keeps the calls of a station alarm register as files, runs them, and recounts
+reports from them. `station COMMAND --help` says more.
 
-  write TEXT -o LIST               makes a list of calls (.calls) from its text form
-  read LIST                        prints a list in its text form; the two are inverse
-  replay LIST                      runs the calls, and prints the register as a page of the station's book
-  recount LIST --against REPORT    the figures of the raw calls beside those of a report
-  twin LIST                        runs the calls with other texts, and shows that every figure is the same
-  check REGISTER                   whether a file holds a sound register, and where to look if not
+  write TEXT -o LIST              makes a list of calls (.calls) from its text
+  read LIST                       prints the text of a list
+  replay LIST                     runs the calls, and prints the register as a
+                                  page of the station's book
+  recount LIST --against REPORT   the figures of the raw calls beside a report's
+  twin LIST                       runs the calls with other texts, and shows that
+                                  every figure is the same
+  check REGISTER                  whether a file holds a sound register, and
+                                  where to look if not
 
-Exit status: 0 fine; 1 figures or twins differ, or the register is not sound; 2 the command line is not understood;
-3 a file does not hold what it should; 4 a file cannot be read or written. A reader that stops early, as in
-`station replay day.calls | head`, ends the program quietly with 0.
+A file named - is standard input. `station --version` prints the version.
+
+Exit status:
+  0  fine; also where the reader stops early, as in `station read LIST | head`
+  1  figures differ, twins differ, or the register is not sound
+  2  the command line is not understood
+  3  a file does not hold what it should
+  4  a file cannot be read or written
 ";
 
 const WRITE_HELP: &str = "\
 station write TEXT [-o LIST]
 
-Makes a list of calls from its text form: one call a line, as in
+Makes a list of calls from its text: one call a line, as in
 
-    limits active=16 history=64 audit=16
-    2026-03-14 09:12:04 raise id=A1 type=drive.trip severity=critical cause=other:ropeway.drive-trip
-    object=interface(drive,converter) text=\"overcurrent\"                                (all on one line)
-    2026-03-14 09:13 acknowledge id=A1 authorised=yes
+  limits active=16 history=64 audit=16
+  day 14 March 2026
+  09:12 suppress id=A1 authorised=yes
+  2026-03-14 09:13 acknowledge id=A2 authorised=no
+  summary
 
-docs/CALLS.md has every operation and every way to write a date. A call that a register would refuse for what it says
-(numbers 23 to 29) is a fault here, told with its line and column; bytes of any kind can be written with `raw`.
-TEXT may be - for standard input; without -o the list goes to standard output.
+docs/CALLS.md has every operation and every way to write a date; examples/day.txt
+is a whole day. A call that a register would refuse for what it says (numbers 23
+to 29) is a fault here, told with its line and column; `raw` takes bytes of any
+kind. TEXT may be - for standard input.
 
-Exit status: 0, 2 command line not understood, 3 TEXT has a fault, 4 a file cannot be read or written.
+  -o LIST   writes the list to a file; without it, to standard output
+
+Exit status: 0 fine, 2 the command line is not understood, 3 TEXT has a fault,
+4 a file cannot be read or written.
 ";
 
 const READ_HELP: &str = "\
 station read LIST [--zone ZONE] [-o TEXT]
 
-Prints a list of calls in its text form. `station write` makes the same bytes of it again. A call that a register
-refuses for what it says is printed as its bytes, with the refusal as a comment. LIST may be - for standard input.
+Prints a list of calls as text. `station write` makes the same bytes of it again.
+A call that a register refuses for what it says is printed as its bytes, with the
+refusal behind it as a comment. LIST may be - for standard input.
 
-  --zone ZONE   times as clocks show them that are so far ahead of UTC, as +01:00; without it, UTC
+  --zone ZONE   times of clocks so far ahead of UTC, as +01:00; without it, UTC
   -o TEXT       writes to a file
 
-Exit status: 0, 2 command line not understood, 3 LIST is not a list of calls, 4 a file cannot be read or written.
+Exit status: 0 fine, 2 the command line is not understood, 3 LIST is not a list
+of calls, 4 a file cannot be read or written.
 ";
 
 /// What carries out a command, its help, and the options that it has.
@@ -112,6 +129,9 @@ fn run(words: &[String]) -> Result<u8, Failure> {
     };
     if asks_for_help(name) || name == "help" {
         return files::print(HELP.as_bytes()).map(|()| FINE);
+    }
+    if name == "--version" {
+        return files::print(concat!("station ", env!("CARGO_PKG_VERSION"), "\n").as_bytes()).map(|()| FINE);
     }
     let Some(command) = COMMANDS.iter().find(|command| command.name == name) else {
         return Err(Failure::Usage(format!("there is no command {name}; see `station --help`")));

@@ -1,5 +1,5 @@
 //! `station replay`: a register as a page of the station's book.
-use crate::failure::{Failure, FINE};
+use crate::failure::{named, Failure, FINE};
 use crate::files;
 use crate::list::List;
 use crate::options::{usage, Form, Options};
@@ -10,20 +10,24 @@ use crate::tables;
 pub const HELP: &str = "\
 station replay LIST [--only TABLE] [--zone ZONE] [--json | --csv] [-o REGISTER]
 
-Runs the calls of LIST (a .calls file, or - for standard input) from a fresh register and prints the register as a page:
-active alarms, history, audit trail, counts by severity and cause, what the calls were answered, and the summary.
---json and --csv have all fields; the page leaves out types, scopes, details and keys.
+Runs the calls of LIST (a .calls file, or - for standard input) from a fresh
+register, and prints the register as a page of the station's book: active alarms,
+history, audit trail, counts by severity and cause, what the calls were answered,
+and the summary. The page leaves out types, scopes, details and keys; --json and
+--csv have them.
 
   --only TABLE   active, history, audit, counts, answers or summary alone
-  --zone ZONE    times as clocks show them that are so far ahead of UTC, as +01:00; without it, UTC
+  --zone ZONE    times of clocks so far ahead of UTC, as +01:00; without it, UTC
   --json         all tables, or the one of --only, as a JSON object
   --csv          the table of --only as CSV
-  -o REGISTER    also writes the register's bytes to a file, as `station check` reads them
+  -o REGISTER    also writes the register's bytes to a file, for `station check`
 
-Audit events that calls of the list took out stand in the audit trail with the call that took them.
-A bar on standard error shows how far a long replay has come, on a terminal only.
+Audit events that calls of the list took out stand in the audit trail with the
+number of the call that took them. On a terminal a bar shows how far a long
+replay has come.
 
-Exit status: 0, 2 command line not understood, 3 LIST is not a list of calls, 4 a file cannot be read or written.
+Exit status: 0 fine, 2 the command line is not understood, 3 LIST is not a list
+of calls, 4 a file cannot be read or written.
 ";
 
 pub fn command(options: &Options) -> Result<u8, Failure> {
@@ -48,13 +52,13 @@ pub fn command(options: &Options) -> Result<u8, Failure> {
 }
 
 fn page(options: &Options, list: &List, tables: &[&Table]) -> String {
-    let (calls, limits) = (list.calls.len(), list.limits);
-    let title = format!("{}: {calls} calls from a fresh register with room for {limits}.", options.file);
     let ruled: Vec<String> = tables.iter().map(|table| table.ruled()).collect();
-    match options.only {
-        None => format!("STATION ALARM REGISTER\n{title} Times are {}.\n\n{}", options.zone.name(), ruled.join("\n")),
-        Some(_) => ruled.join("\n"),
+    if options.only.is_some() {
+        return ruled.join("\n");
     }
+    let calls = format!("{} calls of {}, from a fresh register.", list.calls.len(), named(&options.file));
+    let room = format!("It has room for {}. Times are {}.", list.limits, options.zone.name());
+    format!("STATION ALARM REGISTER\n{calls}\n{room}\n\n{}", ruled.join("\n"))
 }
 
 fn json(list: &List, tables: &[&Table]) -> String {

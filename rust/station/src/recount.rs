@@ -1,35 +1,46 @@
 //! `station recount`: a report's figures beside those of the raw calls.
-use crate::failure::{Failure, FINE, FOUND};
+use crate::failure::{named, Failure, FINE, FOUND};
 use crate::figures::{self, Figure};
 use crate::files;
 use crate::options::{usage, Form, Options};
 use crate::replay;
-use crate::table::{column, json_object, Cell, Table};
+use crate::table::{column, json_object, numbers, Cell, Table};
 
 pub const HELP: &str = "\
 station recount LIST [--against REPORT] [--partial] [--json | --csv]
 
-Runs the calls of LIST (a .calls file, or - for standard input) from a fresh register and counts. With --against the
-figures stand beside those of REPORT, and each that differs is marked. Without it they are printed alone; as --csv
-that is a report in the form that --against reads.
+Runs the calls of LIST (a .calls file, or - for standard input) from a fresh
+register and counts. With --against the figures stand beside those of REPORT, and
+each difference in its row. Without it they are printed alone; with --csv that is
+a report as --against reads it.
 
-REPORT is a CSV file that begins with the line `figure,value` (or with a semicolon) and has a figure on each line:
-  calls, refused, refused NUMBER             all calls; those that were refused, in all and by number
-  raised, updated, cleared, acknowledged,    answers of each kind; also: suppressed, not found, unauthorized,
-                                             audit failed, clear without active, active limit exceeded
-  expired                                    alarms that expire calls ended
-  alarms CAUSE, raises CAUSE                 new alarms of a cause; all raises of it, those folded into one alarm too
-  active at end, active at end SEVERITY CAUSE, worst at end, readiness at end, history entries at end,
-  audit events held at end, audit events stored, audit events lost
+REPORT is a CSV file. It begins with the line `figure,value` (a semicolon will do)
+and has a figure on each line:
 
-A figure that REPORT leaves out counts as 0, so what is left out shows as a difference unless it is 0 or `none`.
+  calls                     all calls
+  refused, refused NUMBER   refused calls, in all and by the refusal's number
+  raised, updated, cleared, suppressed, acknowledged, unauthorized, not found,
+  audit failed, clear without active, active limit exceeded
+                            calls with this answer
+  expired                   alarms that expire calls ended
+  alarms CAUSE              new alarms of a cause
+  raises CAUSE              raises of a cause, with those of an active alarm
+  active at end, active at end SEVERITY CAUSE, worst at end, readiness at end,
+  history entries at end, audit events held at end
+                            what the register holds after the last call
+  audit events stored, audit events lost
+                            the register's audit counters
+
+A figure that REPORT leaves out counts as 0 (or none, or no impact): what is left
+out shows as a difference where the raw calls say otherwise.
 
   --partial   figures that REPORT leaves out are not compared
   --json      all figures as a JSON object
   --csv       all figures as CSV
 
-Exit status: 0 equal, 1 at least one figure differs, 2 command line not understood, 3 LIST or REPORT is not in its form,
-4 a file cannot be read or written.
+Exit status: 0 equal, 1 at least one figure differs, 2 the command line is not
+understood, 3 LIST or REPORT is not in its form, 4 a file cannot be read or
+written.
 ";
 
 pub fn command(options: &Options) -> Result<u8, Failure> {
@@ -45,8 +56,8 @@ pub fn command(options: &Options) -> Result<u8, Failure> {
     let reported = figures::report(&files::text(against)?, &counted).map_err(|fault| Failure::input(against, fault))?;
     let rows = beside(&counted, &reported, options.partial);
     let differing = rows.iter().filter(|row| !row.equal).count();
-    let table = table(against, &rows);
-    let verdict = verdict(against, rows.len(), differing);
+    let table = table(&named(against), &rows);
+    let verdict = verdict(&named(against), rows.len(), differing);
     let shown = match options.form {
         Form::Page => format!("{}\n{verdict}\n", table.ruled()),
         Form::Csv => table.csv(),
@@ -115,7 +126,7 @@ fn table(against: &str, rows: &[Row]) -> Table {
     Table {
         name: "figures",
         title: format!("FIGURES OF THE RAW CALLS BESIDE {against}"),
-        columns: ["figure", "raw_calls", "report", "difference"].map(column).to_vec(),
+        columns: vec![column("figure"), numbers("raw_calls"), numbers("report"), numbers("difference")],
         rows: rows.iter().map(cells).collect(),
     }
 }

@@ -1,30 +1,55 @@
 //! Tables: ruled for people, as CSV or JSON for scripts.
+use crate::ruled::{ruled, PageColumn, Setting};
 use crate::text::quoted_for_page;
 
-/// The most characters of a line on a page, where the columns can be made that narrow: a printer's wide line.
-const PAGE_WIDTH: usize = 132;
-/// A column is made no narrower than its longest piece that is not broken, and never for longer pieces than this.
-const LONGEST_PIECE: usize = 24;
-/// Signs behind which a cell is broken.
-const BREAKS: [char; 7] = [' ', ',', '.', ':', '_', '-', '('];
+/// Where a page shows a column. CSV and JSON have all columns.
+#[derive(Clone, Copy, Debug, PartialEq, Eq)]
+enum OnPage {
+    /// As a column of its own.
+    Alone(Setting),
+    /// In the column before it, a line lower.
+    Below,
+    /// The same, with its name; for what few rows have.
+    BelowNamed,
+    /// Not at all.
+    Nowhere,
+}
 
 /// A column of a table.
 #[derive(Clone, Copy, Debug)]
 pub struct Column {
-    /// Its name.
-    pub name: &'static str,
-    /// Whether it stands on a page; CSV and JSON have all columns.
-    pub on_page: bool,
+    name: &'static str,
+    on_page: OnPage,
 }
 
-/// A column that stands on a page.
+/// A column of words.
 pub const fn column(name: &'static str) -> Column {
-    Column { name, on_page: true }
+    Column { name, on_page: OnPage::Alone(Setting::Words) }
+}
+
+/// A column of numbers.
+pub const fn numbers(name: &'static str) -> Column {
+    Column { name, on_page: OnPage::Alone(Setting::Numbers) }
+}
+
+/// A column of times.
+pub const fn times(name: &'static str) -> Column {
+    Column { name, on_page: OnPage::Alone(Setting::Times) }
+}
+
+/// A column that a page shows below the one before it.
+pub const fn below(name: &'static str) -> Column {
+    Column { name, on_page: OnPage::Below }
+}
+
+/// A column that a page shows below the one before it, with its name.
+pub const fn below_named(name: &'static str) -> Column {
+    Column { name, on_page: OnPage::BelowNamed }
 }
 
 /// A column for scripts alone.
 pub const fn off_page(name: &'static str) -> Column {
-    Column { name, on_page: false }
+    Column { name, on_page: OnPage::Nowhere }
 }
 
 /// What a row holds in a column.
@@ -34,6 +59,8 @@ pub enum Cell {
     Text(String),
     /// A number.
     Number(u64),
+    /// A time for scripts, and the lines in which a page shows it.
+    Time { plain: String, on_page: [String; 2] },
     /// Nothing.
     None,
 }
@@ -51,15 +78,23 @@ impl Cell {
 
     fn plain(&self) -> String {
         match self {
-            Cell::Text(text) => text.clone(),
+            Cell::Text(text) | Cell::Time { plain: text, .. } => text.clone(),
             Cell::Number(number) => number.to_string(),
             Cell::None => String::new(),
         }
     }
 
+    /// The lines in which a page shows it.
+    fn lines(&self) -> Vec<String> {
+        match self {
+            Cell::Time { on_page, .. } => on_page.to_vec(),
+            cell => Some(quoted_for_page(&cell.plain())).filter(|line| !line.is_empty()).into_iter().collect(),
+        }
+    }
+
     fn json(&self) -> String {
         match self {
-            Cell::Text(text) => json_string(text),
+            Cell::Text(text) | Cell::Time { plain: text, .. } => json_string(text),
             Cell::Number(number) => number.to_string(),
             Cell::None => "null".to_string(),
         }
@@ -80,32 +115,48 @@ pub struct Table {
 }
 
 impl Table {
-    /// The columns that a page shows: those in which some row holds something.
-    fn places(&self) -> Vec<usize> {
+    /// The columns that a page shows, as places of the table's columns: each with those below it. Where no row holds
+    /// anything they are left out.
+    fn places(&self) -> Vec<(Setting, Vec<usize>)> {
         let filled = |place: &usize| self.rows.iter().any(|row| !row[*place].plain().is_empty());
-        (0..self.columns.len()).filter(|place| self.columns[*place].on_page).filter(filled).collect()
+        let mut shown: Vec<(Setting, Vec<usize>)> = Vec::new();
+        for (place, column) in self.columns.iter().enumerate() {
+            match column.on_page {
+                OnPage::Alone(setting) => shown.push((setting, vec![place])),
+                OnPage::Below | OnPage::BelowNamed => {
+                    if let Some((_, above)) = shown.last_mut() {
+                        above.push(place);
+                    }
+                }
+                OnPage::Nowhere => {}
+            }
+        }
+        shown.iter_mut().for_each(|(_, places)| places.retain(filled));
+        shown.retain(|(_, places)| !places.is_empty());
+        shown
     }
 
-    /// The table with rules, as a page of a book. Long cells go on in the line below.
+    /// A column of a page, which shows the table's columns at these places.
+    fn page_column(&self, setting: Setting, places: &[usize]) -> PageColumn {
+        let name = |place: &usize| self.columns[*place].name.replace('_', " ");
+        let named = |place: &usize| self.columns[*place].on_page == OnPage::BelowNamed;
+        let heading = places.iter().filter(|place| !named(place)).map(name).collect();
+        let lines = |row: &Vec<Cell>, place: &usize| -> Vec<String> {
+            let label = if named(place) { name(place) + ": " } else { String::new() };
+            row[*place].lines().into_iter().map(|line| format!("{label}{line}")).collect()
+        };
+        let cell = |row: &Vec<Cell>| places.iter().flat_map(|place| lines(row, place)).collect();
+        PageColumn { setting, heading, cells: self.rows.iter().map(cell).collect() }
+    }
+
+    /// The table with rules, as a page of a book.
     pub fn ruled(&self) -> String {
-        let places = self.places();
-        if places.is_empty() {
+        let columns: Vec<PageColumn> =
+            self.places().into_iter().map(|(setting, places)| self.page_column(setting, &places)).collect();
+        if columns.is_empty() {
             return format!("{}\n  none\n", self.title);
         }
-        let shown = |row: &Vec<Cell>| places.iter().map(|place| quoted_for_page(&row[*place].plain())).collect();
-        let cells: Vec<Vec<String>> = self.rows.iter().map(shown).collect();
-        let names: Vec<String> = places.iter().map(|place| self.columns[*place].name.replace('_', " ")).collect();
-        let whole =
-            |i: usize, length: fn(&str) -> usize| cells.iter().chain([&names]).map(|row| length(&row[i])).max().unwrap_or(0);
-        let longest = (0..places.len()).map(|i| whole(i, |cell| cell.chars().count())).collect();
-        let narrowest: Vec<usize> = (0..places.len()).map(|i| whole(i, longest_piece)).collect();
-        let widths = narrowed(longest, &narrowest);
-        let numbers = |place: &usize| self.rows.iter().all(|row| matches!(row[*place], Cell::Number(_) | Cell::None));
-        let right: Vec<bool> = places.iter().map(numbers).collect();
-        let rule = |joint: &str| widths.iter().map(|width| "─".repeat(width + 2)).collect::<Vec<_>>().join(joint) + "\n";
-        let body: String = cells.iter().map(|row| ruled_row(row, &widths, &right)).collect();
-        let head = ruled_row(&names, &widths, &right);
-        format!("{}\n{}{head}{}{body}{}", self.title, rule("┬"), rule("┼"), rule("┴"))
+        ruled(&self.title, &columns)
     }
 
     /// The table as CSV by RFC 4180, with a line of names; lines end with a line feed.
@@ -129,58 +180,6 @@ impl Table {
         let rows: Vec<String> = self.rows.iter().map(row).collect();
         format!("[{}{}]", rows.join(","), if rows.is_empty() { "" } else { "\n  " })
     }
-}
-
-/// The longest piece of a cell that is not broken.
-fn longest_piece(cell: &str) -> usize {
-    let pieces = cell.split_inclusive(BREAKS).map(|piece| piece.trim_end().chars().count());
-    pieces.max().unwrap_or(0).min(LONGEST_PIECE)
-}
-
-/// Widths with which a row fits the page, the widest column narrowed first.
-fn narrowed(mut widths: Vec<usize>, narrowest: &[usize]) -> Vec<usize> {
-    while widths.iter().map(|width| width + 3).sum::<usize>() > PAGE_WIDTH + 1 {
-        let wide = widths.iter_mut().zip(narrowest).filter(|(width, narrowest)| **width > **narrowest);
-        match wide.map(|(width, _)| width).max() {
-            Some(widest) => *widest -= 1,
-            None => break,
-        }
-    }
-    widths
-}
-
-/// A row with a bar between its columns, on as many lines as its longest cell needs.
-fn ruled_row(cells: &[String], widths: &[usize], right: &[bool]) -> String {
-    let wrapped: Vec<Vec<String>> = cells.iter().zip(widths).map(|(cell, width)| wrapped(cell, *width)).collect();
-    let lines = wrapped.iter().map(Vec::len).max().unwrap_or(0);
-    let padded = |line: usize, place: usize| {
-        let (cell, width) = (wrapped[place].get(line).map_or("", String::as_str), widths[place]);
-        if right[place] {
-            format!(" {cell:>width$} ")
-        } else {
-            format!(" {cell:<width$} ")
-        }
-    };
-    let line = |line: usize| {
-        (0..cells.len()).map(|place| padded(line, place)).collect::<Vec<_>>().join("│").trim_end().to_string() + "\n"
-    };
-    (0..lines).map(line).collect()
-}
-
-/// A cell in lines of a width, broken behind a blank or a sign where there is one.
-fn wrapped(cell: &str, width: usize) -> Vec<String> {
-    let mut lines = Vec::new();
-    let mut left: Vec<char> = cell.chars().collect();
-    while left.len() > width {
-        let last = |passes: &dyn Fn(usize) -> bool| (1..=width).rev().find(|at| passes(*at));
-        let blank = last(&|at| left[at] == ' ').filter(|at| *at > width / 3);
-        let sign = blank.or_else(|| last(&|at| BREAKS.contains(&left[at - 1])));
-        let rest = left.split_off(sign.unwrap_or(width));
-        lines.push(left.iter().collect::<String>().trim_end().to_string());
-        left = rest.into_iter().skip_while(|c| *c == ' ').collect();
-    }
-    lines.push(left.iter().collect());
-    lines
 }
 
 fn csv_row(cells: &[String]) -> String {

@@ -1,9 +1,9 @@
 //! The tables of a page, asked of a register.
 use crate::replay::{Machine, Often, Tally};
-use crate::table::{column, off_page, Cell, Column, Table};
+use crate::table::{below, below_named, column, numbers, off_page, times, Cell, Column, Table};
 use crate::text::Zone;
 use alarm_register::{
-    code_name, Alarm, AuditEvent, CountActive, ListActive, ListHistory, Operation, Refusal, Summarise, Summary, TakeAudit,
+    code_name, Alarm, AuditEvent, CountActive, ListActive, ListHistory, Operation, Refusal, Summarise, Summary, TakeAudit, Time,
 };
 
 /// The tables of a page. Everything but the answers is asked of the register itself, by operations 8 to 12.
@@ -17,14 +17,14 @@ pub fn of(machine: &Machine, tally: &Tally, zone: Zone) -> Result<Vec<Table>, Re
         alarms(
             "active",
             "ACTIVE ALARMS",
-            [column("raised_at"), off_page("updated_at")],
+            [times("raised_at"), off_page("updated_at")],
             zone,
             ListActive::read_answer(&active).into_iter().flatten(),
         ),
         alarms(
             "history",
             "HISTORY",
-            [off_page("raised_at"), column("updated_at")],
+            [off_page("raised_at"), times("updated_at")],
             zone,
             ListHistory::read_answer(&history).into_iter().flatten(),
         ),
@@ -36,22 +36,28 @@ pub fn of(machine: &Machine, tally: &Tally, zone: Zone) -> Result<Vec<Table>, Re
 }
 
 /// A table of alarms. A page tells of active alarms when they were raised, and of history when each change was.
-fn alarms<'a>(name: &'static str, title: &str, times: [Column; 2], zone: Zone, alarms: impl Iterator<Item = Alarm<'a>>) -> Table {
-    let [raised_at, updated_at] = times;
+fn alarms<'a>(
+    name: &'static str,
+    title: &str,
+    change: [Column; 2],
+    zone: Zone,
+    alarms: impl Iterator<Item = Alarm<'a>>,
+) -> Table {
+    let [raised_at, updated_at] = change;
     let columns = vec![
         raised_at,
         updated_at,
         off_page("cleared_at"),
         column("severity"),
-        column("state"),
+        below("state"),
         column("id"),
         off_page("type"),
         column("cause"),
-        column("object"),
-        column("tenant"),
-        column("slice"),
-        column("region"),
+        below("object"),
         column("text"),
+        below_named("tenant"),
+        below_named("slice"),
+        below_named("region"),
         off_page("details"),
         off_page("key"),
     ];
@@ -61,22 +67,26 @@ fn alarms<'a>(name: &'static str, title: &str, times: [Column; 2], zone: Zone, a
 
 fn alarm(alarm: Alarm<'_>, zone: Zone) -> Vec<Cell> {
     vec![
-        Cell::of(zone.show(alarm.raised_at)),
-        Cell::of(zone.show(alarm.updated_at)),
-        Cell::maybe(alarm.cleared_at.map(|time| zone.show(time))),
+        at(alarm.raised_at, zone),
+        at(alarm.updated_at, zone),
+        alarm.cleared_at.map_or(Cell::None, |time| at(time, zone)),
         Cell::of(alarm.severity),
         Cell::of(alarm.state),
         Cell::of(alarm.id),
         Cell::of(alarm.alarm_type),
         Cell::of(alarm.cause),
         Cell::of(alarm.object),
+        Cell::of(alarm.text),
         Cell::maybe(alarm.tenant),
         Cell::maybe(alarm.slice),
         Cell::maybe(alarm.region),
-        Cell::of(alarm.text),
         Cell::maybe(alarm.details.map(hexadecimal)),
         Cell::of(alarm.key),
     ]
+}
+
+fn at(time: Time, zone: Zone) -> Cell {
+    Cell::Time { plain: zone.show(time), on_page: zone.show_in_lines(time) }
 }
 
 fn hexadecimal(bytes: &[u8]) -> String {
@@ -86,18 +96,18 @@ fn hexadecimal(bytes: &[u8]) -> String {
 /// The audit trail: events that calls took out, then those that the register holds.
 fn events<'a>(tally: &Tally, zone: Zone, held: impl Iterator<Item = AuditEvent<'a>>) -> Table {
     let columns = vec![
-        column("occurred_at"),
+        times("occurred_at"),
         column("action"),
-        column("outcome"),
+        below("outcome"),
         column("id"),
         off_page("type"),
         off_page("cause"),
         column("principal"),
-        column("tenant"),
+        below_named("tenant"),
         column("reason"),
         off_page("scope"),
-        column("correlation"),
-        column("taken_by_call"),
+        below_named("correlation"),
+        numbers("taken_by_call"),
     ];
     let taken =
         tally.taken.iter().filter_map(|(place, record)| Some(event(AuditEvent::read(record)?, zone, Cell::Number(*place))));
@@ -107,7 +117,7 @@ fn events<'a>(tally: &Tally, zone: Zone, held: impl Iterator<Item = AuditEvent<'
 
 fn event(event: AuditEvent<'_>, zone: Zone, taken: Cell) -> Vec<Cell> {
     vec![
-        Cell::of(zone.show(event.occurred_at)),
+        at(event.occurred_at, zone),
         Cell::of(event.action),
         Cell::of(event.outcome),
         Cell::of(event.id),
@@ -130,7 +140,7 @@ fn counted(answer: &[u8]) -> Table {
     Table {
         name: "counts",
         title: "ACTIVE BY SEVERITY AND CAUSE".to_string(),
-        columns: vec![column("severity"), column("alarms"), column("cause")],
+        columns: vec![column("severity"), numbers("alarms"), column("cause")],
         rows: counts.map(row).collect(),
     }
 }
@@ -143,12 +153,12 @@ fn answers(tally: &Tally) -> Table {
     let refusal =
         |(number, often): (&u32, &Often)| row(*number, format!("refused: {}", Refusal::from_number(*number).sentence()), often);
     let rows = tally.codes.iter().map(answer).chain(tally.refused.iter().map(refusal)).collect();
-    let columns = ["calls", "number", "answer", "first_call"].map(column).to_vec();
+    let columns = vec![numbers("calls"), numbers("number"), column("answer"), numbers("first_call")];
     Table { name: "answers", title: "WHAT THE CALLS WERE ANSWERED".to_string(), columns, rows }
 }
 
 fn summed(summary: Option<Summary>) -> Table {
-    let columns = ["active", "worst", "readiness", "audit_stored", "audit_lost"].map(column).to_vec();
+    let columns = vec![numbers("active"), column("worst"), column("readiness"), numbers("audit_stored"), numbers("audit_lost")];
     let row = |summary: Summary| {
         vec![
             Cell::Number(summary.active),

@@ -6,23 +6,26 @@ use crate::list::List;
 use crate::options::{Form, Options};
 use crate::progress::Progress;
 use crate::replay::{Machine, Tally};
-use crate::table::{column, json_object, json_string, Cell, Table};
+use crate::table::{column, json_object, json_string, numbers, Cell, Table};
 use alarm_register::layout::{alarm, header};
 use alarm_register::{check_call, Call, Raise, HEAD_WIDTH, RECORD_WIDTH};
 
 pub const HELP: &str = "\
 station twin LIST [--json | --csv]
 
-Makes a twin of LIST: the same calls, but every raise has another text, and details where it had none and none where it
-had some. Runs both from fresh registers, call by call, and compares after each call the number, the answer and the
-register, byte for byte outside text and details; then the figures of `station recount`, as they are printed.
+Makes a twin of LIST (a .calls file, or - for standard input): the same calls, but
+every raise has another text, and details where it had none and none where it had
+some. Runs both from fresh registers and compares, after each call, number, answer
+and register byte for byte outside text and details; at the end the figures of
+`station recount`, as they are printed.
 
-That no text and no details change anything else is proved for every list; this shows it on yours.
+That texts and details change nothing else is proved for every list; this shows it
+on yours.
 
   --json, --csv   the result for scripts
 
-Exit status: 0 all is the same, 1 something differs, 2 command line not understood, 3 LIST is not a list of calls,
-4 a file cannot be read or written.
+Exit status: 0 all is the same, 1 something differs, 2 the command line is not
+understood, 3 LIST is not a list of calls, 4 a file cannot be read or written.
 ";
 
 pub fn command(options: &Options) -> Result<u8, Failure> {
@@ -128,7 +131,7 @@ fn table(compared: &Compared, replaced: usize) -> Table {
     Table {
         name: "twin",
         title: "A LIST AND ITS TWIN".to_string(),
-        columns: ["compared", "number", "bytes"].map(column).to_vec(),
+        columns: vec![column("compared"), numbers("number"), numbers("bytes")],
         rows: vec![
             row("raises with another text and other details", replaced, None),
             row("answers, after each call", compared.calls, Some(compared.answer_bytes)),

@@ -6,7 +6,7 @@ use alarm_register::{Date, Time};
 const FORMS: &str =
     "a time is written as 2026-03-14 09:30, 14.3.2026 09:30:05.25 or 14 March 2026 09:30, with Z or +01:00 behind it if need be";
 const MONTHS: [&str; 12] =
-    ["january", "february", "march", "april", "may", "june", "july", "august", "september", "october", "november", "december"];
+    ["January", "February", "March", "April", "May", "June", "July", "August", "September", "October", "November", "December"];
 const SECOND: i64 = 1_000_000_000;
 
 /// What lines before said on days and zones.
@@ -85,11 +85,16 @@ fn date(line: &mut Cursor<'_>) -> Result<Date, Fault> {
     exists.ok_or_else(|| start.fault("the calendar has no such day"))
 }
 
+/// A date as a page shows it: `14 Mar 2026`.
+pub fn written(date: Date) -> String {
+    format!("{} {:.3} {}", date.day, MONTHS[usize::from(date.month) - 1], date.year)
+}
+
 fn month(line: &mut Cursor<'_>) -> Result<i64, Fault> {
     let place = line.fault(FORMS);
     let name = line.take_while(char::is_alphabetic).to_lowercase();
     line.skip('.');
-    let found = MONTHS.iter().position(|month| name.len() >= 3 && month.starts_with(&name));
+    let found = MONTHS.iter().position(|month| name.len() >= 3 && month.to_lowercase().starts_with(&name));
     found.map(|place| place as i64 + 1).ok_or(place)
 }
 
@@ -120,7 +125,7 @@ fn fraction(line: &mut Cursor<'_>) -> Result<i64, Fault> {
 
 #[cfg(test)]
 mod tests {
-    use super::{Calendar, Cursor};
+    use super::{Calendar, Cursor, Date};
 
     fn time(text: &str) -> String {
         let mut calendar = Calendar::default();
@@ -141,6 +146,15 @@ mod tests {
         assert_eq!(time("14 Mar. 2026 09:30:05.250"), "2026-03-14 09:30:05.25");
         assert_eq!(time("07:15"), "2026-03-15 07:15:00");
         assert_eq!(time("2026-03-14 00:30 +01:00"), "2026-03-13 23:30:00");
+    }
+
+    #[test]
+    fn a_date_on_a_page_can_be_read_again() {
+        for (year, month, day) in [(2026, 3, 14), (1999, 12, 31), (2024, 2, 29)] {
+            let date = Date::new(year, month, day).unwrap();
+            assert_eq!(super::date(&mut Cursor::new(&super::written(date))), Ok(date));
+        }
+        assert_eq!(super::written(Date::new(2026, 3, 4).unwrap()), "4 Mar 2026");
     }
 
     #[test]

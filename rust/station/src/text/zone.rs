@@ -1,5 +1,6 @@
 //! Zones: how far clocks are ahead of UTC.
 use super::cursor::{Cursor, Fault};
+use super::date;
 use alarm_register::Time;
 use std::fmt;
 
@@ -61,10 +62,22 @@ impl Zone {
 
     /// A time as clocks of the zone show it. Where they cannot, at both ends of time, it is UTC and says so.
     pub fn show(self, time: Time) -> String {
-        match time.0.checked_add(self.nanoseconds()) {
-            Some(shown) => Time(shown).to_string(),
+        match self.shifted(time) {
+            Some(shown) => shown.to_string(),
             None => format!("{time}Z"),
         }
+    }
+
+    /// The same in two lines: the date as people write it, and the clock.
+    pub fn show_in_lines(self, time: Time) -> [String; 2] {
+        let shown = self.show(time);
+        let clock = shown.split_once(' ').map_or("", |(_, clock)| clock).to_string();
+        let (date, _) = self.shifted(time).unwrap_or(time).date();
+        [date::written(date), clock]
+    }
+
+    fn shifted(self, time: Time) -> Option<Time> {
+        time.0.checked_add(self.nanoseconds()).map(Time)
     }
 }
 
