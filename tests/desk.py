@@ -20,11 +20,16 @@ DAY, MONTH = WORK / "day.calls", WORK / "month.calls"
 HELP_WIDTH, PAGE_WIDTH = 83, 99
 
 
-def ready():
-    """Makes the static library where it is not there or is older than its sources; skips where programs cannot be linked."""
+def linkable():
+    """Skips where programs cannot be linked."""
     for tool in ("cargo", "cc"):
         if not shutil.which(tool):
             raise Skip(f"{tool} is not on this machine")
+
+
+def ready():
+    """Makes the static library where it is not there or is older than its sources."""
+    linkable()
     made = subprocess.run(["make", "lib"], cwd=HERE, stdout=subprocess.PIPE, stderr=subprocess.STDOUT, text=True)
     if made.returncode:
         raise ValueError(f"make lib: {made.stdout[-500:]}")
@@ -66,6 +71,7 @@ def works(*words, given=None, status=0):
 def with_program(check):
     """The check, skipped where the program could not be built."""
     def go(root):
+        linkable()
         if not STATION.exists():
             raise Skip("the program is not built")
         return check(root)
@@ -143,6 +149,7 @@ def text_faults(_root):
     yield from ends(3, "line 2, column 37: the cause is not a known name", "write", "-", given=head + clear)
     yield from ends(3, "line 2: this is not text", "write", saved("junk.txt", head.encode() + b"\xff\xfe\x00"))
     yield from ends(3, "the register's limits are missing", "write", saved("empty.txt", ""))
+    yield from ends(3, "line 2, column 1: no register opens with room for 0 active", "write", "-", given="\nlimits active=0 history=1 audit=1\n")
     yield from ends(4, "there is no such file", "write", WORK / "nowhere.txt")
     yield from ends(4, "cannot write", "write", HERE / "examples/day.txt", "-o", WORK / "nowhere/day.calls")
     yield from ends(4, "it is a folder", "write", HERE / "examples/day.txt", "-o", WORK)
@@ -172,7 +179,7 @@ def list_faults(_root):
         for command in ("read", "replay", "recount", "twin"):
             yield from ends(3, said, command, path)
     limits = saved("limits.calls", whole[:12] + b"\xff" * 12 + whole[24:])
-    for command in ("replay", "recount", "twin"):
+    for command in ("read", "replay", "recount", "twin"):
         yield from ends(3, "20: a limit is 0 or above 65,535", command, limits)
         yield from ends(4, "there is no such file", command, WORK / "nowhere.calls")
 

@@ -1,5 +1,5 @@
 //! Lists of calls as files; docs/CALLS.md describes the format.
-use alarm_register::Limits;
+use alarm_register::{Limits, Refusal, Register};
 
 const MAGIC: &[u8; 8] = b"ALRMCALL";
 const VERSION: u32 = 1;
@@ -15,6 +15,15 @@ pub struct List {
     pub answer: Option<u32>,
     /// The calls, in order.
     pub calls: Vec<Vec<u8>>,
+}
+
+/// Whether a register opens with these limits, or what is wrong with them.
+pub fn opens_with(limits: Limits) -> Result<(), String> {
+    // a slice without bytes is too short for any register, so that the limits alone are judged
+    match Register::open(&mut [], limits) {
+        Err(refusal @ Refusal::Limits) => Err(format!("no register opens with room for {limits}: {refusal}")),
+        _ => Ok(()),
+    }
 }
 
 /// The bytes of a file that were not read yet.
@@ -70,6 +79,7 @@ impl List {
         }
         let mut number = || file.number().ok_or_else(cut);
         let limits = Limits { active: number()?, history: number()?, audit: number()? };
+        opens_with(limits)?;
         let answer = Some(number()?).filter(|length| *length != 0);
         Ok(List { limits, answer, calls: Vec::new() })
     }

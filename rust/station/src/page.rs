@@ -56,9 +56,13 @@ fn page(options: &Options, list: &List, tables: &[&Table]) -> String {
     if options.only.is_some() {
         return ruled.join("\n");
     }
-    let calls = format!("{} calls of {}, from a fresh register.", list.calls.len(), named(&options.file));
+    let calls = match list.calls.len() {
+        1 => "1 call".to_string(),
+        calls => format!("{calls} calls"),
+    };
     let room = format!("It has room for {}. Times are {}.", list.limits, options.zone.name());
-    format!("STATION ALARM REGISTER\n{calls}\n{room}\n\n{}", ruled.join("\n"))
+    let title = format!("{calls} of {}, from a fresh register.", named(&options.file));
+    format!("STATION ALARM REGISTER\n{title}\n{room}\n\n{}", ruled.join("\n"))
 }
 
 fn json(list: &List, tables: &[&Table]) -> String {

@@ -14,10 +14,6 @@ impl Machine {
     /// A fresh register for a list.
     pub fn fresh(list: &List) -> Result<Machine, String> {
         let limits = list.limits;
-        // no memory is asked for where the limits are refused
-        if let Err(refusal @ Refusal::Limits) = Register::open(&mut [], limits) {
-            return Err(format!("the register cannot be opened with {limits}: {refusal}"));
-        }
         let mut register = vec![0; limits.register_length()];
         Register::open(&mut register, limits).map_err(|refusal| format!("the register cannot be opened: {refusal}"))?;
         // a longer slice than any answer fills makes no difference

@@ -12,7 +12,7 @@ pub use cursor::Fault;
 pub use print::quoted_for_page;
 pub use zone::Zone;
 
-use crate::list::List;
+use crate::list::{opens_with, List};
 use alarm_register::{check_call, Limits, Refusal};
 use cursor::Cursor;
 use date::Calendar;
@@ -78,15 +78,17 @@ impl Reading {
     }
 
     fn limits(&mut self, line: &mut Cursor<'_>) -> Result<(), Fault> {
-        let start = line.fault("the limits stand once, before the first call");
+        let place = line.clone();
         line.word();
         if self.limits.is_some() || !self.calls.is_empty() {
-            return Err(start);
+            return Err(place.fault("the limits stand once, before the first call"));
         }
         let mut fields = fields::read(line)?;
         let (active, history, audit) = (fields.number("active")?, fields.number("history")?, fields.number("audit")?);
         fields.none_left("limits")?;
-        self.limits = Some(Limits { active, history, audit });
+        let limits = Limits { active, history, audit };
+        opens_with(limits).map_err(|fault| place.fault(&fault))?;
+        self.limits = Some(limits);
         Ok(())
     }
 
