@@ -1,24 +1,29 @@
 -- Laws of answers written part by part: a head, a body behind it, and what the two are.
 use mathlib.Core.Path.{_≡_, refl, sym, ap, _∙_}
-use mathlib.Core.List.{List, [], _∷_, _++_, append-assoc, append-nil}
+use mathlib.Core.List.{List, [], _∷_, _++_, append-assoc}
 use Prim.Native.Nat.{ℕ, _+_, _≤_}
 use native.Mathlib.Omega.{arith}
 use lib.ListN.{length, take, drop, length-append}
 use lib.Seq.{take-at, drop-at, length-take-le, take-take}
 use Rattle.octets.specs.Bytes.{Bytes, be32, be64, splice}
 use Rattle.octets.specs.NumberLaws.{length-digits}
+use Rattle.octets.specs.SpliceLaws.{splice-none}
 use Rattle.octets.specs.Put.{Put}
+use Rattle.octets.specs.PutLaws.{put-as}
 use Rattle.definition.specs.Alarm.{Alarm, Event}
-use Rattle.definition.specs.Key.{string}
 use Rattle.definition.specs.Record.{alarmBytes}
 use Rattle.definition.specs.Station.{Step}
 use Rattle.definition.specs.MoveLaws.{Does}
 use Rattle.definition.specs.ReplyLaws.{Answers}
-use Rattle.definition.specs.Answer.{Answer, Count, Head, head, headOf, headBytes, alarmRecord, eventRecord, alarmRecords, eventRecords, countEntries, body, answerBytes}
+use Rattle.definition.specs.Answer.{Answer, Head, head, headOf, headBytes, alarmRecord, eventRecord, alarmRecords, eventRecords, body, answerBytes}
 
 pub length-head : (h : Head) → length (headBytes h) ≡ 16
 length-head h =
     omega (arith, length-append (be32 (h .count)) (be64 (h .number)), length-digits 4 (h .count), length-digits 8 (h .number))
+
+pub length-answer : (x : Answer) → length (answerBytes x) ≡ 16 + length (body x)
+unfolding answerBytes
+length-answer x = omega (arith, length-append (headBytes (headOf x)) (body x), length-head (headOf x))
 
 -- ---- which answer a head and a body are
 
@@ -39,6 +44,14 @@ answers-put {x = x} d p = record { value = x; does = d; size = omega (arith, p .
 
 -- ---- a list, whose head is written once its entries are
 
+-- no entry is written
+pub put-none : (b : Bytes) (at : ℕ) → at ≤ length b → Put b at [] at b
+put-none b at h = record { next = omega arith; fits = h; bytes = sym (splice-none b at) }
+
+-- the head of a list of n
+abbrev pub listHead : ℕ → Head
+listHead n = head 11 n 0
+
 splice-before : (b u v : Bytes) (at m : ℕ) → m ≡ at + length u → m + length v ≤ length b → splice (splice b m v) at u ≡ splice b at (u ++ v)
 unfolding splice
 splice-before b u v at m e h =
@@ -52,28 +65,29 @@ splice-before b u v at m e h =
     rw (front, rest, behind, append-assoc u v)
 
 -- entries behind the place of the head, then the head
-pub put-list : {a c d v : Bytes} {r n : ℕ} (h : Head) → Put a 16 v r c → Put c 0 (headBytes h) n d → Put a 0 (headBytes h ++ v) r d
-put-list {a} {v = v} h p q =
-    let l = length-head h in
-    record {
-      next = omega (arith, p .next, length-append (headBytes h) v);
+pub put-list : (x : Answer) (k : ℕ) → headOf x ≡ listHead k → {a c d : Bytes} {r n : ℕ} → Put a 16 (body x) r c → Put c 0 (headBytes (listHead k)) n d → Put a 0 (answerBytes x) r d
+put-list x k e {a} p q =
+    let h = headBytes (listHead k) in
+    let l = length-head (listHead k) in
+    put-as (answer-as x e refl)
+    (record {
+      next = omega (arith, p .next, length-append h (body x));
       fits = p .fits;
-      bytes = q .bytes ∙ ap (λ (t : Bytes). splice t 0 (headBytes h)) (p .bytes) ∙ splice-before a (headBytes h) v 0 16 (omega arith) (omega (arith, p .next, p .fits));
-    }
+      bytes = q .bytes ∙ ap (λ (t : Bytes). splice t 0 h) (p .bytes) ∙ splice-before a h (body x) 0 16 (omega arith) (omega (arith, p .next, p .fits));
+    })
 
--- one more entry, behind the others
-behind : {A : Type 0} (f : List A → Bytes) (g : A → Bytes) → f [] ≡ [] → ((a : A) (l : List A) → f (a ∷ l) ≡ g a ++ f l) → (l : List A) (a : A) → f (l ++ (a ∷ [])) ≡ f l ++ g a
-behind f g n c [] a = c a [] ∙ rw (n, append-nil)
-behind f g n c (b ∷ l) a = c b (l ++ (a ∷ [])) ∙ rw (behind f g n c l a, c b l, append-assoc)
+-- ---- records one behind the other
 
-pub alarms-behind : (l : List Alarm) (a : Alarm) → alarmRecords (l ++ (a ∷ [])) ≡ alarmRecords l ++ alarmRecord a
+-- f makes the records of a list, g the record of one
+joined :
+    {A : Type 0} (f : List A → Bytes) (g : A → Bytes) → f [] ≡ [] → ((a : A) (l : List A) → f (a ∷ l) ≡ g a ++ f l) → (l m : List A) → f (l ++ m) ≡ f l ++ f m
+joined f g none more [] m = ap (λ (b : Bytes). b ++ f m) (sym none)
+joined f g none more (a ∷ l) m = more a (l ++ m) ∙ rw (joined f g none more l m, more a l, append-assoc)
+
+pub alarms-append : (l m : List Alarm) → alarmRecords (l ++ m) ≡ alarmRecords l ++ alarmRecords m
 unfolding alarmRecords
-alarms-behind l a = behind alarmRecords alarmRecord refl (λ b k. refl) l a
+alarms-append = joined alarmRecords alarmRecord refl (λ a l. refl)
 
-pub events-behind : (l : List Event) (e : Event) → eventRecords (l ++ (e ∷ [])) ≡ eventRecords l ++ eventRecord e
+pub events-append : (l m : List Event) → eventRecords (l ++ m) ≡ eventRecords l ++ eventRecords m
 unfolding eventRecords
-events-behind l e = behind eventRecords eventRecord refl (λ b k. refl) l e
-
-pub counts-behind : (l : List Count) (n : Count) → countEntries (l ++ (n ∷ [])) ≡ countEntries l ++ (n .severity ∷ (be32 (n .amount) ++ string (n .cause)))
-unfolding countEntries
-counts-behind l n = behind countEntries (λ (k : Count). k .severity ∷ (be32 (k .amount) ++ string (k .cause))) refl (λ b k. refl) l n
+events-append = joined eventRecords eventRecord refl (λ e l. refl)

@@ -16,7 +16,8 @@ use Rattle.definition.specs.Book.{Record, recordOf, walk}
 use Rattle.definition.specs.BookPathLaws.{length-walk}
 use Rattle.definition.specs.Answer.{alarmRecords}
 use Rattle.lists.specs.Meaning.{alarmOf, alarmsOn}
-use Rattle.lists.specs.RecordsLaws.{put-none, records-append, length-records}
+use Rattle.definition.specs.AnswerLaws.{length-alarmRecords}
+use Rattle.answers.specs.AnswerLaws.{put-none, alarms-append}
 use Rattle.lists.specs.ThoseLaws.{those-append, those-one, those-most, those-part}
 use Rattle.lists.specs.WayLaws.{Way, Followed, follow-start, follow-end, follow-next, follow-on, follow-parts}
 
@@ -90,15 +91,15 @@ module _ {t : Alarm → Bool} {b : Bytes} {x n i : ℕ} (w : Way b x n i) where
           written-length,
           c .put .next,
           within t w (c .way) l,
-          length-records (those t (alarmsOn x b)),
-          length-records (among t b i k),
-          length-records (here t b at),
+          length-alarmRecords (those t (alarmsOn x b)),
+          length-alarmRecords (among t b i k),
+          length-alarmRecords (here t b at),
         )
 
     pub written-on : k < n → (a″ : Bytes) (e : ℕ) → Put a′ end (alarmRecords (here t b at)) e a″ → (r : ℕ) → r ≡ at32 b (1536 * at) → Written t b n i a a″ r e (k + 1)
     written-on l a″ e p r q = record {
       way = follow-on w (c .way) l r q;
-      put = put-as (sym (records-append (among t b i k) (here t b at)) ∙ ap alarmRecords (sym (more t w (c .way) l))) (put-two (c .put) p);
+      put = put-as (sym (alarms-append (among t b i k) (here t b at)) ∙ ap alarmRecords (sym (more t w (c .way) l))) (put-two (c .put) p);
     }
 
     pub written-end : n ≤ k → Put a 16 (alarmRecords (those t (alarmsOn x b))) end a′

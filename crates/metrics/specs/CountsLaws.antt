@@ -1,23 +1,23 @@
 -- What stands at the places without a mark is the answer of operation 10.
 use Prim.Native.Nat.{ℕ, _+_, _≤_, _<_}
-use mathlib.Core.Path.{_≡_, refl, sym, ap, _∙_}
-use mathlib.Core.List.{List, [], _++_, map}
+use mathlib.Core.Path.{_≡_, sym, ap, _∙_}
+use mathlib.Core.List.{List, [], map}
 use native.Mathlib.Omega.{arith}
-use borrow.Author.Tests.{lt-ltb, le-ltb}
 use lib.Dec.{T}
-use lib.ListN.{length, replicate, length-append, length-replicate}
+use lib.ListN.{length, replicate, length-replicate}
 use Rattle.octets.specs.Bytes.{Bytes, zeros}
 use Rattle.octets.specs.Put.{Put}
 use Rattle.octets.specs.PutLaws.{put-as}
 use Rattle.definition.specs.ChainLaws.{length-map}
-use Rattle.definition.specs.Answer.{Answer, Counts, head, headBytes, countEntries, answerBytes}
-use Rattle.definition.specs.Station.{_>>=_, give, refuse}
+use Rattle.definition.specs.Answer.{Answer, Counts, headOf, headBytes, countEntries}
 use Rattle.definition.specs.Reports.{Rating, rating, countOf, firstsFrom, tally, counts}
 use Rattle.definition.specs.Perform.{inLength}
-use Rattle.definition.specs.Sound.{sound}
+use Rattle.definition.specs.Sound.{station, sound}
+use Rattle.definition.specs.MoveLaws.{Does}
 use Rattle.definition.specs.ReplyLaws.{Answers, Refuses}
-use Rattle.history.specs.DoesLaws.{does-then, does-give, does-look, does-no}
-use Rattle.answers.specs.AnswerLaws.{length-head, answer-as, answers-put, put-list}
+use Rattle.history.specs.DoesLaws.{does-look}
+use Rattle.answers.specs.AnswerLaws.{length-answer, listHead, put-list}
+use Rattle.reply.specs.ReplyLaws.{answered, refused}
 use Rattle.metrics.specs.Meaning.{activeAlarms, ratings, settled, unmarked, entries, listing, Settled}
 use Rattle.metrics.specs.MarkLaws.{settled-firsts, Marked, settled-all}
 
@@ -47,24 +47,17 @@ module _ (b ms : Bytes) (s : Settled (ratings b) ms) where
   bytes-tally = ap (λ (l : List Rating). countEntries (map (countOf (ratings b)) l)) (s .firsts)
 
   module _ (n : ℕ) (en : n ≡ length (unmarked (ratings b) ms)) where
-    answer-is : headBytes (head 11 n 0) ++ listing b ms ≡ answerBytes answer
-    answer-is = answer-as answer (ap (λ (m : ℕ). head 11 m 0) (sym (en ∙ entries-tally))) (sym bytes-tally)
-
-    answer-length : length (answerBytes answer) ≡ 16 + length (listing b ms)
-    answer-length =
-        sym (ap length answer-is) ∙ length-append (headBytes (head 11 n 0)) (listing b ms)
-        ∙ ap (λ (m : ℕ). m + length (listing b ms)) (length-head (head 11 n 0))
+    headed : headOf answer ≡ listHead n
+    headed = ap listHead (sym (en ∙ entries-tally))
 
     module _ (h : T (sound b)) (a : Bytes) where
+      counted : Does counts b b answer
+      unfolding counts
+      counted = does-look b _ h
+
       pub counts-refused : length a < 16 + length (listing b ms) → Refuses (inLength (length a) counts) b b a a 30
-      unfolding inLength counts _>>=_
-      counts-refused l = record { stops = rw (lt-ltb (length a) (length (answerBytes answer)) (omega (arith, answer-length))); register = refl; answer = refl }
+      counts-refused l = refused counts b a answer (station b) (counted .step) (omega (arith, length-answer answer, ap length bytes-tally))
 
       pub counts-answered :
-          (c d : Bytes) (r m : ℕ) → 16 + length (listing b ms) ≤ length a → Put a 16 (listing b ms) r c →
-          Put c 0 (headBytes (head 11 n 0)) m d → Answers (inLength (length a) counts) b b a d r
-      unfolding inLength counts
-      counts-answered c d r m l p q =
-          answers-put
-          (does-then _ (does-look b _ h) (does-no _ (refuse 30) (give answer) (le-ltb (length a) (length (answerBytes answer)) (omega (arith, answer-length))) (does-give b answer h)))
-          (put-as answer-is (put-list (head 11 n 0) p q))
+          (c d : Bytes) (r m : ℕ) → Put a 16 (listing b ms) r c → Put c 0 (headBytes (listHead n)) m d → Answers (inLength (length a) counts) b b a d r
+      counts-answered c d r m p q = answered counts b a answer b d r counted (put-list answer n headed (put-as bytes-tally p) q)

@@ -11,7 +11,7 @@ use Rattle.octets.specs.Bytes.{Bytes, at32, be32, value}
 use Rattle.octets.specs.NumberLaws.{length-be32}
 use Rattle.octets.specs.Put.{Put}
 use Rattle.octets.specs.PutLaws.{put-two, put-as}
-use Rattle.octets.specs.SpliceLaws.{splice-none, length-splice}
+use Rattle.octets.specs.SpliceLaws.{length-splice}
 use Rattle.definition.specs.Key.{string}
 use Rattle.definition.specs.KeyLaws.{length-string}
 use Rattle.definition.specs.Slot.{cut}
@@ -19,6 +19,7 @@ use Rattle.definition.specs.Record.{readAlarm}
 use Rattle.definition.specs.Answer.{Count, countEntries}
 use Rattle.definition.specs.Book.{recordOf}
 use Rattle.definition.specs.Reports.{Rating, rating, countOf}
+use Rattle.answers.specs.AnswerLaws.{put-none}
 use Rattle.metrics.specs.Meaning.{Reached, alarmAt, ratings, ratingAt, unmarked, entryBytes, entryAt, entries, listing, listingFrom, sizeAt}
 use Rattle.metrics.specs.WalkLaws.{reached-next, reached-here, reached-end}
 use Rattle.metrics.specs.MarkLaws.{mark-here}
@@ -143,10 +144,6 @@ module _ {b ms : Bytes} {n k at e m : ℕ} (w : Measured b ms n k at e m) where
 
 -- ---- the entries, written by a walk
 
--- where nothing is written
-pub put-nothing : (a : Bytes) (at : ℕ) → at ≤ length a → Put a at [] at a
-put-nothing a at h = record { next = omega arith; fits = h; bytes = sym (splice-none a at) }
-
 -- of n records k are passed, and their entries stand in the answer, which was a and is c, up to place m
 pub record Written (b ms a c : Bytes) (n k at m : ℕ) : Type 0 where
   pub reached : Reached b n k at
@@ -157,7 +154,7 @@ pub record Written (b ms a c : Bytes) (n k at m : ℕ) : Type 0 where
   pub rest : text ++ listingFrom k b ms ≡ listing b ms
 
 pub written-none : {b : Bytes} (ms a : Bytes) {n at : ℕ} → Reached b n 0 at → n ≤ length ms → 16 + length (listing b ms) ≤ length a → Written b ms a a n 0 at 16
-written-none ms a w h f = record { reached = w; room = h; fits = f; text = []; put = put-nothing a 16 (omega arith); rest = refl }
+written-none ms a w h f = record { reached = w; room = h; fits = f; text = []; put = put-none a 16 (omega arith); rest = refl }
 
 module _ {b ms a c : Bytes} {n k at m : ℕ} (w : Written b ms a c n k at m) where
   pub written-length : length c ≡ length a

@@ -13,7 +13,7 @@ use Rattle.definition.specs.Sound.{station}
 use Rattle.definition.specs.ReplyLaws.{Refuses}
 use Rattle.reply.specs.declared.Reply.{Reply}
 use Rattle.reply.specs.Meaning.{Replies}
-use Rattle.raising.specs.RaiseLaws.{replies-at}
+use Rattle.reply.specs.ReplyLaws.{replies-at}
 use Rattle.operations.specs.Meaning.{plainCall, policyCall}
 
 -- the call c does the step m where there is room

@@ -18,9 +18,9 @@ use Rattle.definition.specs.Fields.{LegalRaise}
 use Rattle.definition.specs.ChangeLaws.{updated-legal, new-legal}
 use Rattle.definition.specs.Record.{lastActive, alarmBytes, readAlarm}
 use Rattle.definition.specs.Book.{recordOf}
-use Rattle.definition.specs.Station.{Step, _>>=_, refuse}
+use Rattle.definition.specs.Station.{_>>=_, refuse}
 use Rattle.definition.specs.Steps.{change, updatedBy, newAlarm, store, storeNew, limitExceeded, raiseAt, raise}
-use Rattle.definition.specs.Answer.{Answer, Raised, Updated, ActiveLimitExceeded, head, headBytes, answerBytes}
+use Rattle.definition.specs.Answer.{Raised, Updated, ActiveLimitExceeded, head, headBytes, answerBytes}
 use Rattle.definition.specs.Sound.{station, sound}
 use Rattle.definition.specs.MoveLaws.{Does}
 use Rattle.definition.specs.ReplyLaws.{Answers, Refuses}
@@ -31,15 +31,10 @@ use Rattle.state.specs.ActLaws.{on-alarm}
 use Rattle.answers.specs.AnswerLaws.{alarm-as, answers-put}
 use Rattle.changes.specs.Meaning.{updatedWith, newsIn, updated-with}
 use Rattle.reply.specs.declared.Reply.{Reply}
-use Rattle.reply.specs.declared.Reply.the-variants.{Answered, Refused}
+use Rattle.reply.specs.declared.Reply.the-variants.{Answered}
 use Rattle.reply.specs.Meaning.{Replies}
+use Rattle.reply.specs.ReplyLaws.{replies-at}
 use Rattle.raising.specs.Meaning.{updatesAt, raisesNew}
-
--- a step that does the same on this register
-pub replies-at : (y : Reply) (m m′ : Step Answer) (b b′ a a′ : Bytes) → m′ (station b) ≡ m (station b) → Replies y m b b′ a a′ → Replies y m′ b b′ a a′
-replies-at (Answered n) m m′ b b′ a a′ e w =
-    record { value = w .value; does = record { step = e ∙ w .does .step; sound = w .does .sound }; size = w .size; bytes = w .bytes }
-replies-at (Refused k) m m′ b b′ a a′ e w = record { stops = e ∙ w .stops; register = w .register; answer = w .answer }
 
 -- ---- an active alarm is updated
 

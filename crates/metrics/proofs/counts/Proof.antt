@@ -41,7 +41,7 @@ returns-2 c =
     let m = i .before .before in
     let r = m .before .before .before in
     let s = r .before .before .before .before in
-    counts-answered _ _ (r .mark-repeats .ensures) _ (m .measure .ensures .0) (s .pre) _ _ _ _ _ (omega (arith, i .if1 .left, m .measure .ensures .1)) (p .put-entries .ensures) (h .put-head .ensures)
+    counts-answered _ _ (r .mark-repeats .ensures) _ (m .measure .ensures .0) (s .pre) _ _ _ _ _ (p .put-entries .ensures) (h .put-head .ensures)
 
 pub counts-spec : {M : Type 1} → statement M
 counts-spec =

@@ -6,13 +6,14 @@ use borrow.Author.Tests.{eq-eqb, ne-eqb}
 use Rattle.octets.specs.Bytes.{be32}
 use Rattle.octets.specs.PutLaws.{put-as}
 use Rattle.definition.specs.Key.{string}
-use Rattle.metrics.specs.ListingLaws.{entry-fits, put-nothing}
+use Rattle.answers.specs.AnswerLaws.{put-none}
+use Rattle.metrics.specs.ListingLaws.{entry-fits}
 use borrow.Author.Needs.{needs}
 use Rattle.metrics.proofs.put_entry.Statement.{statement}
 use Rattle.metrics.proofs.put_entry.Tie as tie
 
 returns : tie.Need-returns
-returns c = rw (ne-eqb _ 0 (c .if1 .taken)) (put-nothing _ _ (omega (arith, c .before .before .before .pre .2)))
+returns c = rw (ne-eqb _ 0 (c .if1 .taken)) (put-none _ _ (omega (arith, c .before .before .before .pre .2)))
 
 put-count-requires : tie.Need-put-count-requires
 put-count-requires c κs =
