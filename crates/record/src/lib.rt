@@ -82,13 +82,6 @@ impl EventAt {
 
 // ---- fields read
 
-pub fn key(p: &[u8]) -> &[u8]
-    requires { ⌜ length (now p) ≡ payloadWidth ⌝ }
-    ensures { λ r. ⌜ now r ≡ readAlarm (now (p .entry)) .key ⌝ }
-{
-    &p[AlarmAt::KEY..AlarmAt::SEVERITY]
-}
-
 pub fn severity(p: &[u8]) -> u8
     requires { ⌜ length (now p) ≡ payloadWidth ⌝ }
     ensures { λ r. ⌜ r ≡ readAlarm (now (p .entry)) .severity ⌝ }
