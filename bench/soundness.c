@@ -10,7 +10,7 @@
    filling it by calls would take time with the square of its records.
 
      rt staticlib station
-     gcc -O2 -Wall -Wextra bench/soundness.c target/staticlib/libstation.a -o target/soundness && target/soundness */
+     cc -O2 -Wall -Wextra bench/soundness.c target/staticlib/libstation.a -o target/soundness && target/soundness */
 #include <stdint.h>
 #include <stdio.h>
 #include <stdlib.h>

@@ -72,7 +72,8 @@ pub trait Station {
     fn step(&mut self, call: &[u8], room: usize) -> u32;
 }
 
-/// Steps the orders and prints, for each name, the nanoseconds of the steps that were measured under it.
+/// Steps the orders and prints, for each name, the nanoseconds of the steps that were measured under it. Only empty calls
+/// may be refused.
 pub fn measure(orders: &[Order], station: &mut dyn Station) {
     let mut groups: Vec<(&str, Vec<u128>)> = Vec::new();
     for order in orders {
@@ -82,7 +83,7 @@ pub fn measure(orders: &[Order], station: &mut dyn Station) {
                 let start = Instant::now();
                 let number = station.step(call, *room);
                 let spent = start.elapsed().as_nanos();
-                assert_eq!(number, 0, "a call is refused");
+                assert!(number == 0 || call.is_empty(), "a call is refused with {number}");
                 if let Some((_, times)) = groups.last_mut() {
                     times.push(spent);
                 }
