@@ -107,6 +107,10 @@ DAMAGES = {
         ("a theorem that is not there", CLAIMS, r"`published`", "`publicised`"),
         ("a public function left out", CLAIMS, r"`put_zeros`", "`put_bytes`"),
     ],
+    (repository, "sentences have their definitions"): [
+        ("a definition renamed", "crates/definition/specs/Steps.antt", r"\bmakeRoom\b", "makePlace"),
+        ("a file that states nothing", "docs/SENTENCES.md", r"(`keyOf`; .*\| )`Key.antt`", r"\1`Cause.antt`"),
+    ],
     (repository, "paths in documents are there"): [
         ("a path to nothing", "README.md", r"\Z", "See docs/NOWHERE.md.\n"),
     ],

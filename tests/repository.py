@@ -201,6 +201,25 @@ def claims(root):
             yield f"{where}: {name} is not in docs/CLAIMS.md"
 
 
+def sentences(root):
+    """Each definition that docs/SENTENCES.md names is in a file of its row, and each of these files has one of them."""
+    for number, row in enumerate((root / "docs/SENTENCES.md").read_text(encoding="utf-8").splitlines(), 1):
+        cells = row.strip("| ").split(" | ")
+        if len(cells) != 3 or cells[1] in ("Definition", "Theorem"):
+            continue
+        names, files = (re.findall(r"`([^`]+)`", cell) for cell in cells[1:])
+        bare = set(names)
+        for file in files:
+            path = root / (file if "/" in file else f"crates/definition/specs/{file}")
+            text = path.read_text(encoding="utf-8") if path.exists() else ""
+            here = {name for name in names if re.search(rf"^\s*(?:\w+ )*(?:extern \"C\" fn )?{re.escape(name)}(?: :| \(|\()", text, re.M)}
+            bare -= here
+            if not here:
+                yield f"docs/SENTENCES.md:{number}: {file} has none of the names"
+        for name in sorted(bare):
+            yield f"docs/SENTENCES.md:{number}: {name} is not in {', '.join(files)}"
+
+
 def paths(root):
     """Each path below crates/, docs/, tests/ or .ci/ that a document names is there."""
     for path, text in texts(root, *DOCUMENTS):
@@ -247,6 +266,7 @@ CHECKS = {
     "the definition has no code": definition,
     "README lists the crates": readme,
     "claims are there, one for each public function": claims,
+    "sentences have their definitions": sentences,
     "paths in documents are there": paths,
     "vectors are Python's": vectors,
     "files are in rt fmt's layout": layout,

@@ -13,7 +13,7 @@ pub record Count : Type 0 where
   pub amount : ℕ
   pub cause : Bytes
 
--- op 11
+-- op 11: "number is the active length; body: worst severity .., worst `readiness_impact` .., then the u64 successes and failures"
 pub record Totals : Type 0 where
   pub active : ℕ
   pub worst : ℕ
@@ -48,7 +48,8 @@ pub record Head : Type 0 where
 abbrev pub head : ℕ → ℕ → ℕ → Head
 head c n v = record { code = c; count = n; number = v }
 
--- "Number is 0 and count 0 unless given; alarms count 1"
+-- "Codes 1 to 10 are `AlarmOpResult` in its order; 11 for ops 7 to 12"; "Number is 0 and count 0 unless given; alarms count 1"; of op 10
+-- "the head's item count is the number of these entries"
 abbrev pub headOf : Answer → Head
 headOf (Raised a) = head 1 1 0
 headOf (Updated a) = head 2 1 0
@@ -90,6 +91,8 @@ unfoldable pub countEntries : List Count → Bytes
 countEntries [] = []
 countEntries (n ∷ l) = (n .severity ∷ (be32 (n .amount) ++ string (n .cause))) ++ countEntries l
 
+-- "alarm .. for 1, 2, 6, 7; id for 3, 10; key digits and cause for 4; key digits for 5 (number A); message for 8 and 9"; "Ids, causes and
+-- messages are strings as in a call; key digits are 32 bare bytes"
 abbrev pub body : Answer → Bytes
 body (Raised a) = alarmRecord a
 body (Updated a) = alarmRecord a

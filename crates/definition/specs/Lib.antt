@@ -89,3 +89,4 @@ pub mod KindLaws
 pub mod Claim
 pub mod ClaimLaws
 pub mod TableSteps
+pub mod Marked

@@ -29,7 +29,7 @@ raw n = record { width = n; put = pad n; get = λ b. b; ok = λ s. eqb (length s
 abbrev pub spare : ℕ → Slot Unit
 spare n = record { width = n; put = λ _. zeros n; get = λ _. tt; ok = λ _. true }
 
--- a byte from 0 to m
+-- a byte from 0 to m: "state .., action and outcome bytes among their values"
 abbrev pub upTo : ℕ → Slot ℕ
 upTo m = record { width = 1; put = λ v. v ∷ []; get = λ b. getD b 0 0; ok = λ v. leb v m }
 

@@ -80,14 +80,14 @@ abbrev next : Station → Outcome Answer → Station
 next s (done x t) = t
 next s (stopped n) = s
 
-unfoldable outcomes : Station → List CallValue → List (Outcome Answer)
+unfoldable pub outcomes : Station → List CallValue → List (Outcome Answer)
 unfolding perform inRecord _>>=_ raise clear raiseAt clearAt change retire store storeNew intoHistory historyAfter extendHistory makeRoom forEach taking addActive addHistory addAudit freeActive freeOldestHistory changeActive changeHistory countSuccess countFailure those first newest without replaced before late sameIdentity sameKey sameNames parts same updatedBy newAlarm clearedBy actedOn act plainAt plain eventStored eventLost attempt eventOf deny allow needsOverride policyAt policy expiredBy expire
 outcomes s [] = []
 outcomes s (v ∷ l) =
     let o = perform v 65536 s in
     o ∷ outcomes (next s o) l
 
-unfoldable given : List CallValue → List (Outcome Answer)
+unfoldable pub given : List CallValue → List (Outcome Answer)
 unfolding outcomes fresh upFrom
 given l = outcomes (fresh 2 3 1) l
 
@@ -96,7 +96,7 @@ abbrev lastOf : Station → List (Outcome Answer) → Station
 lastOf s [] = s
 lastOf s (o ∷ l) = lastOf (next s o) l
 
-unfoldable left : List CallValue → Station
+unfoldable pub left : List CallValue → Station
 unfolding given
 left l = lastOf (fresh 2 3 1) (given l)
 
@@ -119,44 +119,68 @@ clearedAtOf e = e .content .clearedAt
 -- ---- the table
 
 -- "One alarm raised three times, same severity: history raised, updated."
-raised-thrice : map stateOf (left (raising 0 "a" "a" ∷ raising 1 "b" "a" ∷ raising 2 "c" "a" ∷ []) .history) ≡ 0 ∷ 1 ∷ []
+abbrev pub RaisedThrice : Type 0
+RaisedThrice = map stateOf (left (raising 0 "a" "a" ∷ raising 1 "b" "a" ∷ raising 2 "c" "a" ∷ []) .history) ≡ 0 ∷ 1 ∷ []
+
+pub raised-thrice : RaisedThrice
 unfolding left
 raised-thrice = rw key-a
 
 -- "Cleared, raised anew: updated, cleared, raised."
-raised-anew :
+abbrev pub RaisedAnew : Type 0
+RaisedAnew =
     map stateOf (left (raising 0 "a" "a" ∷ raising 1 "b" "a" ∷ raising 2 "c" "a" ∷ clearing 3 "a" ∷ raising 4 "a" "a" ∷ []) .history) ≡ 1 ∷ 4 ∷ 0 ∷ []
+
+pub raised-anew : RaisedAnew
 unfolding left
 raised-anew = rw key-a
 
 -- "Two active: a third key gives code 5; either active key gives Updated."
-two-active :
+abbrev pub TwoActive : Type 0
+TwoActive =
     map codeOf (given (raising 0 "a" "a" ∷ raising 0 "b" "b" ∷ raising 0 "c" "c" ∷ raising 0 "c" "a" ∷ raising 0 "c" "b" ∷ []))
     ≡ 1 ∷ 1 ∷ 5 ∷ 2 ∷ 2 ∷ []
+
+pub two-active : TwoActive
 unfolding given
 two-active = rw (key-a, key-b, key-c)
 
 -- "updated_at 100: cutoff 100 expires 0, cutoff 101 one."
-cutoffs : map numberOf (given (raising 100 "a" "a" ∷ CallValue.expire 100 ∷ CallValue.expire 101 ∷ [])) ≡ 0 ∷ 0 ∷ 1 ∷ []
+abbrev pub Cutoffs : Type 0
+Cutoffs = map numberOf (given (raising 100 "a" "a" ∷ CallValue.expire 100 ∷ CallValue.expire 101 ∷ [])) ≡ 0 ∷ 0 ∷ 1 ∷ []
+
+pub cutoffs : Cutoffs
 unfolding given
 cutoffs = refl
 
 -- "Raised at 100, cleared by a clock at 90: cleared_at 100."
-cleared-late : map clearedAtOf (left (raising 100 "a" "a" ∷ clearing 90 "a" ∷ []) .history) ≡ none ∷ some 100 ∷ []
+abbrev pub ClearedLate : Type 0
+ClearedLate = map clearedAtOf (left (raising 100 "a" "a" ∷ clearing 90 "a" ∷ []) .history) ≡ none ∷ some 100 ∷ []
+
+pub cleared-late : ClearedLate
 unfolding left
 cleared-late = rw key-a
 
 -- "Audit full: an authorised acknowledge gives 9, a denied one 8."
-audit-full : map codeOf (given (raising 0 "a" "a" ∷ withPolicy "a" 1 ∷ withPolicy "a" 1 ∷ withPolicy "a" 0 ∷ [])) ≡ 1 ∷ 7 ∷ 9 ∷ 8 ∷ []
+abbrev pub AuditFull : Type 0
+AuditFull = map codeOf (given (raising 0 "a" "a" ∷ withPolicy "a" 1 ∷ withPolicy "a" 1 ∷ withPolicy "a" 0 ∷ [])) ≡ 1 ∷ 7 ∷ 9 ∷ 8 ∷ []
+
+pub audit-full : AuditFull
 unfolding given
 audit-full = refl
 
 -- "Unknown id, unauthorised: op 3 gives 8, op 5 gives 10 and no event."
-unknown-id : map codeOf (given (unauthorised "x" ∷ withPolicy "x" 0 ∷ [])) ≡ 8 ∷ 10 ∷ []
+abbrev pub UnknownId : Type 0
+UnknownId = map codeOf (given (unauthorised "x" ∷ withPolicy "x" 0 ∷ [])) ≡ 8 ∷ 10 ∷ []
+
+pub unknown-id : UnknownId
 unfolding given
 unknown-id = refl
 
-no-event : left (unauthorised "x" ∷ withPolicy "x" 0 ∷ []) ≡ fresh 2 3 1
+abbrev pub NoEvent : Type 0
+NoEvent = left (unauthorised "x" ∷ withPolicy "x" 0 ∷ []) ≡ fresh 2 3 1
+
+pub no-event : NoEvent
 unfolding left
 no-event = refl
 

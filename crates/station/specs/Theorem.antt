@@ -1,4 +1,4 @@
--- Demands 2 and 3, on what the contracts of the entry points say.
+-- Demand 3 on what the contracts of the entry points say; and that a sound register stays sound.
 use Prim.Native.Nat.{ℕ}
 use mathlib.Core.Path.{_≡_, refl, sym, _∙_, ap₂}
 use mathlib.Core.List.{List, [], _∷_, map}
@@ -42,7 +42,7 @@ abbrev pub Returns : Bytes → List Made → Type 0
 Returns b [] = Unit {0}
 Returns b (m ∷ l) = StepReturns b (m .call) (m .former) (m .number) (m .length) (m .answer) (m .register) × Returns (m .register) l
 
--- ---- demand 2: "a sound register stays sound under every call"
+-- ---- a sound register stays sound under every call
 
 reply-sound : (b : Bytes) (kind : Bool) (x : Outcome Answer) → T (sound b) → Answered kind (station b) x → T (sound (replyOf b x .register))
 reply-sound b kind (done a s) h l = legal-sound s (l .0)
