@@ -2,7 +2,7 @@
 use mathlib.Core.Path.{ap}
 use Rattle.definition.specs.Key.{string}
 use Rattle.octets.specs.PutLaws.{put-as}
-use Rattle.key.proofs.Fed.{span-part}
+use Rattle.definition.specs.SlotLaws.{part-lent}
 use borrow.Author.Needs.{needs}
 use Rattle.key.proofs.put_part.Statement.{statement}
 use Rattle.key.proofs.put_part.Tie as tie
@@ -10,7 +10,7 @@ use Rattle.key.proofs.put_part.Tie as tie
 returns : tie.Need-returns
 returns c =
     let s = c .before .before .before .before .before .before .before .before .args in
-    put-as (ap string (span-part (s .call .now) (s .p))) (c .before .before .put-string .ensures)
+    put-as (ap string (part-lent (s .call .now) (s .p .at) (s .p .len))) (c .before .before .put-string .ensures)
 
 pub put-part-spec : {M : Type 1} → statement M
 put-part-spec =

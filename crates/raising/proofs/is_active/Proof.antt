@@ -1,24 +1,17 @@
 -- `is_active`: whether the search finds one.
-use mathlib.Core.Path.{_≡_, sym, ap, _∙_}
-use Prim.Native.Nat.{_+_, _-_}
-use native.Mathlib.Nat.{add-sub-cancel-left}
+use mathlib.Core.Path.{sym, ap, _∙_}
+use Prim.Native.Nat.{_-_}
 use borrow.Author.Needs.{needs}
-use lib.ListN.{take, drop}
 use denote.Ref.{now}
 use Rattle.octets.specs.Bytes.{Bytes}
 use Rattle.definition.specs.Chain.{present, first}
 use Rattle.definition.specs.Alarm.{hasId}
+use Rattle.definition.specs.SlotLaws.{part-lent}
 use Rattle.definition.specs.Sound.{station}
 use Rattle.definition.specs.SoundLaws.{sound-holds}
 use Rattle.history.specs.HeldLaws.{found-held, not-found}
-use Rattle.model.specs.declared.Span.{Span}
-use Rattle.model.specs.Meaning.{part}
 use Rattle.raising.proofs.is_active.Statement.{statement}
 use Rattle.raising.proofs.is_active.Tie as tie
-
--- the part lent is the one that the span names
-lent : (call : Bytes) (p : Span) → take (p .at + p .len - p .at) (drop (p .at) call) ≡ part call p
-lent call p = rw add-sub-cancel-left
 
 find-id-requires : tie.Need-find-id-requires
 find-id-requires c κs = sound-holds _ (c .before .before .before .before .pre .0) .book
@@ -28,7 +21,7 @@ returns c =
     let f = c .before .before in
     let s = f .before .before .before .before .before in
     let b = now (s .args .register) in
-    sym (ap (λ (d : Bytes). present (first (hasId d) (station b .active))) (sym (lent (now (s .args .call)) (s .args .id)))
+    sym (ap (λ (d : Bytes). present (first (hasId d) (station b .active))) (sym (part-lent (now (s .args .call)) (s .args .id .at) (s .args .id .len)))
     ∙ ap present (found-held b (s .pre .0) (hasId _) _ _ (sym (f .find-id .ensures) ∙ c .enum-told .given .1) .found))
 
 returns-2 : tie.Need-returns-2
@@ -36,7 +29,7 @@ returns-2 c =
     let f = c .before .before in
     let s = f .before .before .before .before .before in
     let b = now (s .args .register) in
-    sym (ap (λ (d : Bytes). present (first (hasId d) (station b .active))) (sym (lent (now (s .args .call)) (s .args .id)))
+    sym (ap (λ (d : Bytes). present (first (hasId d) (station b .active))) (sym (part-lent (now (s .args .call)) (s .args .id .at) (s .args .id .len)))
     ∙ ap present (not-found b (s .pre .0) (hasId _) (sym (f .find-id .ensures) ∙ c .enum-told2 .given .1)))
 
 pub is-active-spec : {M : Type 1} → statement M

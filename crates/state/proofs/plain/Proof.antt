@@ -1,13 +1,10 @@
 -- `plain`: a flag of 0 is not authorised.
-use mathlib.Core.Path.{_≡_, refl, ap}
-use Prim.Native.Nat.{ℕ, _+_, _-_}
-use native.Mathlib.Nat.{add-sub-cancel-left}
-use lib.ListN.{take, drop}
+use mathlib.Core.Path.{refl, ap}
+use Prim.Native.Nat.{_-_}
 use denote.Ref.{now}
 use Rattle.octets.specs.Bytes.{Bytes}
+use Rattle.definition.specs.SlotLaws.{part-lent}
 use Rattle.definition.specs.Steps.{plain}
-use Rattle.model.specs.declared.Span.{Span}
-use Rattle.model.specs.Meaning.{part}
 use Rattle.state.specs.Meaning.{plainOf}
 use native.Mathlib.Omega.{arith}
 use borrow.Author.Needs.{needs}
@@ -15,9 +12,6 @@ use Rattle.changes.specs.Meaning.{actionOf}
 use Rattle.state.specs.ActLaws.{answers-as, unauthorised}
 use Rattle.state.proofs.plain.Statement.{statement}
 use Rattle.state.proofs.plain.Tie as tie
-
-span-part : (call : Bytes) (p : Span) → take (p .at + p .len - p .at) (drop (p .at) call) ≡ part call p
-span-part call p = rw add-sub-cancel-left
 
 returns : tie.Need-returns
 returns c =
@@ -31,7 +25,7 @@ returns-2 c =
     let o = c .before .before .before .before in
     let i = o .before .before .before .before .before in
     let s = i .before .before .before .before in
-    answers-as (ap (λ (d : Bytes). plain (actionOf (s .args .action)) (plainOf (s .args .time) d (s .args .authorised))) (span-part (now (s .args .call)) (s .args .id)))
+    answers-as (ap (λ (d : Bytes). plain (actionOf (s .args .action)) (plainOf (s .args .time) d (s .args .authorised))) (part-lent (now (s .args .call)) (s .args .id .at) (s .args .id .len)))
     (o .plain-on .ensures (s .args .authorised) (omega (arith, i .if1 .left)))
 
 pub plain-spec : {M : Type 1} → statement M
