@@ -1,7 +1,7 @@
 -- "Whitespace is Unicode White_Space", in UTF-8; and a string without it at both ends.
 use Prim.Native.Nat.{ℕ, zero, suc, pred, _+_, _/_, _%_}
 use mathlib.Core.List.{List, [], _∷_, map}
-use mathlib.Core.Bool.{Bool, true, false, cond, _||_, not}
+use mathlib.Core.Bool.{Bool, false, cond, _||_, not}
 use lib.Dec.{ltb, eqb}
 use lib.ListN.{length}
 use Rattle.octets.specs.Bytes.{Bytes, begins}

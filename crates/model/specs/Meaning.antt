@@ -1,6 +1,6 @@
 -- What places in a call mean: offsets and lengths become the bytes there.
 use Prim.Native.Nat.{ℕ, _+_, _≤_, _<_}
-use mathlib.Core.List.{List, [], _++_}
+use mathlib.Core.List.{[], _++_}
 use mathlib.Core.Option.{Option, none, some}
 use lib.ListN.{length, take, drop, getD}
 use Rattle.octets.specs.Bytes.{Bytes}

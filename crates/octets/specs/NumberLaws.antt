@@ -4,10 +4,9 @@ use mathlib.Core.List.{[], _∷_, _++_, append-assoc, append-nil}
 use Prim.Native.Nat.{ℕ, zero, suc, _+_, _*_, _/_, _%_, _-_, _^_, _≤_, _<_}
 use native.Mathlib.Nat.{add-zero, zero-add, lt-of-lt-of-le, mul-le-mul-right, div-add-mod', div-lt-iff-lt-mul, pow-suc, mul-comm, mul-assoc}
 use native.Mathlib.Decide.{decLt}
-use native.Mathlib.Numerals.{add-one}
 use native.Mathlib.Omega.{arith}
 use lib.ListN.{length, take, drop, getD, length-append, length-take, length-drop, length-replicate, getD-replicate, replicate-append-replicate, List·getD-eq-default}
-use lib.Seq.{take-append-le, drop-append-le, take-append-add, drop-append-add, take-at, take-suc, drop-drop, getD-take, getD-drop}
+use lib.Seq.{take-append-le, drop-append-le, take-append-add, drop-append-add, take-at, drop-drop, getD-take, getD-drop}
 use Rattle.octets.specs.Bytes.{Bytes, zeros, pad, digits, be32, valueFrom, value, numberAt, at32}
 use Rattle.octets.specs.PartLaws.{part-length}
 
@@ -32,10 +31,6 @@ zeros-append m n = replicate-append-replicate {A = ℕ} m n 0
 pub zeros-at : (n i : ℕ) → i < n → getD (zeros n) i 0 ≡ 0
 unfolding zeros
 zeros-at n i h = getD-replicate n i 0 0 h
-
--- one more zero is seen
-pub zero-step : (d : Bytes) (i : ℕ) → i < length d → take i d ≡ zeros i → getD d i 0 ≡ 0 → take (i + 1) d ≡ zeros (i + 1)
-zero-step d i h q z = rw (zeros-snoc, add-one, take-suc d i 0, q, z)
 
 -- ---- padding
 
@@ -167,14 +162,5 @@ at32-be32 v r h = number-digits 4 v r h
 pub at32-append : (a b : Bytes) (k : ℕ) → at32 (a ++ b) (length a + k) ≡ at32 b k
 at32-append a b k = number-append 4 a b k
 
-pub at32-front : (a b : Bytes) (k : ℕ) → k + 4 ≤ length a → at32 (a ++ b) k ≡ at32 a k
-at32-front a b k h = number-front 4 a b k h
-
-pub at32-drop : (b : Bytes) (m k : ℕ) → at32 b (m + k) ≡ at32 (drop m b) k
-at32-drop b m k = number-drop 4 b m k
-
 pub be32-at32 : (b : Bytes) (k : ℕ) → Octets b → k + 4 ≤ length b → be32 (at32 b k) ≡ take 4 (drop k b)
 be32-at32 b k h l = digits-number 4 b k h l
-
-pub at32-lt : (b : Bytes) (k : ℕ) → Octets b → k + 4 ≤ length b → at32 b k < 4294967296
-at32-lt b k h l = number-lt 4 b k h l

@@ -119,9 +119,3 @@ module _ (w : ℕ) where
       (λ j _. ap (take w) (rw (drop-drop (w * j) w b, mul-suc, add-comm w (w * j))))
       ∙ pack-parts n (drop w b) l)
       ∙ take-append-drop w b
-
-  -- two lists with the same parts are equal
-  pub parts-equal :
-      (n : ℕ) (b c : Bytes) → length b ≡ w * n → length c ≡ w * n →
-      ((j : ℕ) → j < n → take w (drop (w * j) b) ≡ take w (drop (w * j) c)) → b ≡ c
-  parts-equal n b c h l e = sym (pack-parts n b h) ∙ pack-ext n _ _ e ∙ pack-parts n c l

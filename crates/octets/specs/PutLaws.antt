@@ -1,16 +1,12 @@
 -- Laws of what is put into a slice, one behind the other.
 use mathlib.Core.Path.{_≡_, refl, ap, subst, _∙_}
 use mathlib.Core.List.{_++_}
-use Prim.Native.Nat.{ℕ, _+_, _≤_}
+use Prim.Native.Nat.{ℕ, _+_}
 use native.Mathlib.Omega.{arith}
 use lib.ListN.{length, take, length-append}
 use Rattle.octets.specs.Bytes.{Bytes, splice}
 use Rattle.octets.specs.SpliceLaws.{length-splice, splice-two, part-splice}
 use Rattle.octets.specs.Put.{Put}
-
--- what a function that writes at a place gives
-pub put-one : (b c v : Bytes) (at : ℕ) → c ≡ splice b at v → at + length v ≤ length b → Put b at v (at + length v) c
-put-one b c v at e h = record { next = refl; fits = h; bytes = e }
 
 -- v behind u
 pub put-two : {b c d u v : Bytes} {at m r : ℕ} → Put b at u m c → Put c m v r d → Put b at (u ++ v) r d

@@ -5,7 +5,7 @@ use Prim.Native.Nat.{ℕ, zero, suc, _+_, _-_, _≤_, _<_}
 use native.Mathlib.Nat.{add-assoc, add-zero, zero-add}
 use native.Mathlib.Numerals.{add-one}
 use native.Mathlib.Omega.{arith}
-use lib.ListN.{length, take, drop, getD, set, length-append, length-take, length-drop, take-append-drop, drop-of-length-le}
+use lib.ListN.{length, take, drop, getD, set, length-append, length-take, length-drop, take-append-drop}
 use lib.Seq.{take-at, drop-at, take-append-le, drop-append-le, drop-drop, take-append-add, drop-append-add, length-take-le, set-split, drop-length, take-suc, take-suc-set}
 use Rattle.octets.specs.Bytes.{Bytes, zeros, splice}
 use Rattle.octets.specs.NumberLaws.{zeros-snoc}
@@ -42,22 +42,11 @@ module _ (b : Bytes) (k : ℕ) (v : Bytes) (h : k + length v ≤ length b) where
   front-length : length (take k b) ≡ k
   front-length = length-take-le k b (omega arith)
 
-  pub take-splice : take k (splice b k v) ≡ take k b
-  unfolding splice
-  take-splice = take-at (take k b) (v ++ drop (k + length v) b) k front-length
-
   pub part-splice : take (length v) (drop k (splice b k v)) ≡ v
   unfolding splice
   part-splice =
       ap (take (length v)) (drop-at (take k b) (v ++ drop (k + length v) b) k front-length)
       ∙ take-at v (drop (k + length v) b) (length v) refl
-
-  pub drop-splice : drop (k + length v) (splice b k v) ≡ drop (k + length v) b
-  unfolding splice
-  drop-splice =
-      sym (drop-drop (length v) k (take k b ++ (v ++ drop (k + length v) b)))
-      ∙ ap (drop (length v)) (drop-at (take k b) (v ++ drop (k + length v) b) k front-length)
-      ∙ drop-at v (drop (k + length v) b) (length v) refl
 
 -- ---- one splice after the other
 
@@ -121,13 +110,3 @@ pub back-made :
     (b : Bytes) (k n : ℕ) (w : Bytes) (f : ℕ → Bytes) → ((m : ℕ) → length (f m) ≡ m) → k + n ≤ length b →
     w ≡ f (length (take (k + n - k) (drop k b))) → take k b ++ (w ++ drop (k + n - k) (drop k b)) ≡ splice b k (f n)
 back-made b k n w f l h q = back b k (k + n) w (f n) (q ∙ ap f (lent-length b k n h)) (omega (arith, l n))
-
--- what stands in a slice of m + n bytes after its first m were lent, and then the others
-pub two-parts :
-    (r w v w′ v′ : Bytes) (m n : ℕ) → w ≡ w′ → v ≡ v′ → length w′ ≡ m → length r ≡ m + n →
-    take m (w ++ drop m r) ++ (v ++ drop n (drop m (w ++ drop m r))) ≡ w′ ++ v′
-two-parts r w v w′ v′ m n p q h l =
-    rw (p, q, take-at w′ (drop m r) m h, drop-at w′ (drop m r) m h, drop-drop n m r, drop-of-length-le r {i = m + n} (omega arith), append-nil)
-
-pub second-length : (r w w′ : Bytes) (m n : ℕ) → w ≡ w′ → length w′ ≡ m → length r ≡ m + n → length (take n (drop m (w ++ drop m r))) ≡ n
-second-length r w w′ m n p h l = rw (p, drop-at w′ (drop m r) m h, length-take, length-drop, l) (omega arith)

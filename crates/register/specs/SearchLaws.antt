@@ -15,7 +15,7 @@ use Rattle.definition.specs.Record.{readAlarm}
 use Rattle.definition.specs.Book.{Record, recordOf, chain, times, readBook}
 use Rattle.definition.specs.BookChainLaws.{times-cons, times-hit, times-miss}
 use Rattle.definition.specs.BookSplitLaws.{prevOf}
-use Rattle.definition.specs.BookLegalLaws.{Sound, CanRelease, CanReplace, fair}
+use Rattle.definition.specs.BookLegalLaws.{Sound, CanRelease, fair}
 use Rattle.definition.specs.BookWithLaws.{total-on}
 use Rattle.register.specs.declared.Found.{Found}
 use Rattle.register.specs.declared.Found.the-variants.{At, Nowhere}
@@ -111,9 +111,6 @@ module _ (f : Bytes → Bool) (b : Bytes) (x i p : ℕ) (sound : Sound b) (hx : 
         on = w .on;
         before = sym (w .before (omega (arith, total-on x (readBook b) i (omega arith), fair (sound .legal) .once i)));
       }
-
-  pub can-replace-found : (q : Bytes) → length q ≡ 1532 → CanReplace b x i q
-  can-replace-found q h = record { sound = sound; which = hx; on = seen f 0 i p (chain x (readBook b)) found .on; sized = h }
 
 -- ---- the search and the definition's first match
 

@@ -1,8 +1,8 @@
 -- Demand 3 on what the contracts of the entry points say; and that a sound register stays sound.
 use Prim.Native.Nat.{ℕ}
-use mathlib.Core.Path.{_≡_, refl, sym, _∙_, ap₂}
+use mathlib.Core.Path.{_≡_, sym, ap₂}
 use mathlib.Core.List.{List, [], _∷_, map}
-use mathlib.Core.Bool.{Bool, true, false}
+use mathlib.Core.Bool.{Bool}
 use lib.Dec.{T}
 use lib.ListN.{length}
 use Rattle.octets.specs.Bytes.{Bytes, splice}
@@ -16,10 +16,10 @@ use Rattle.definition.specs.FieldLaws.{Answered, perform-legal}
 use Rattle.definition.specs.ReadLaws.{call-legal}
 use Rattle.definition.specs.Sound.{station, sound}
 use Rattle.definition.specs.SoundLaws.{sound-holds, legal-sound}
-use Rattle.definition.specs.Opening.{Opened, opened, openOf}
+use Rattle.definition.specs.Opening.{opened, openOf}
 use Rattle.definition.specs.Lists.{replyOf, stepOf, run}
 use Rattle.definition.specs.Twins.{AtEach, TwinLists}
-use Rattle.definition.specs.Claim.{Fresh, Stepped, Made, Trace, asked, AsReplied, Alike, AllOctets}
+use Rattle.definition.specs.Claim.{Fresh, Made, Trace, asked, AsReplied, Alike, AllOctets}
 use Rattle.definition.specs.ClaimLaws.{claim}
 
 -- ---- what the contracts say

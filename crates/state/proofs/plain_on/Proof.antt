@@ -1,6 +1,5 @@
 -- `plain_on`: the alarm is acted on where it is found.
 use mathlib.Core.Path.{refl, sym, _∙_}
-use native.Mathlib.Omega.{arith}
 use borrow.Author.Needs.{needs}
 use denote.Ref.{now}
 use Rattle.definition.specs.Alarm.{hasId}
