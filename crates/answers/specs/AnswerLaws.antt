@@ -15,7 +15,7 @@ use Rattle.definition.specs.Record.{alarmBytes}
 use Rattle.definition.specs.Station.{Step}
 use Rattle.definition.specs.MoveLaws.{Does}
 use Rattle.definition.specs.ReplyLaws.{Answers}
-use Rattle.definition.specs.Answer.{Answer, Head, head, headOf, headBytes, alarmRecord, eventRecord, alarmRecords, eventRecords, body, answerBytes}
+use Rattle.definition.specs.Answer.{Answer, Head, head, headOf, headBytes, alarmRecord, eventRecord, eventRecords, body, answerBytes}
 
 pub length-head : (h : Head) → length (headBytes h) ≡ 16
 length-head h =
@@ -78,16 +78,7 @@ put-list x k e {a} p q =
 
 -- ---- records one behind the other
 
--- f makes the records of a list, g the record of one
-joined :
-    {A : Type 0} (f : List A → Bytes) (g : A → Bytes) → f [] ≡ [] → ((a : A) (l : List A) → f (a ∷ l) ≡ g a ++ f l) → (l m : List A) → f (l ++ m) ≡ f l ++ f m
-joined f g none more [] m = ap (λ (b : Bytes). b ++ f m) (sym none)
-joined f g none more (a ∷ l) m = more a (l ++ m) ∙ rw (joined f g none more l m, more a l, append-assoc)
-
-pub alarms-append : (l m : List Alarm) → alarmRecords (l ++ m) ≡ alarmRecords l ++ alarmRecords m
-unfolding alarmRecords
-alarms-append = joined alarmRecords alarmRecord refl (λ a l. refl)
-
 pub events-append : (l m : List Event) → eventRecords (l ++ m) ≡ eventRecords l ++ eventRecords m
 unfolding eventRecords
-events-append = joined eventRecords eventRecord refl (λ e l. refl)
+events-append [] m = refl
+events-append (e ∷ l) m = ap (λ (t : Bytes). eventRecord e ++ t) (events-append l m) ∙ sym (append-assoc (eventRecord e) (eventRecords l) (eventRecords m))

@@ -1,17 +1,18 @@
 -- A sweep of the active chain: what is done at each turn, and at its end.
 use Prim.Native.Nat.{ℕ, _+_, _*_, _≤_, _<_}
 use mathlib.Core.Path.{_≡_}
-use mathlib.Core.List.{List, _++_, map}
+use mathlib.Core.List.{List, map}
 use lib.ListN.{length}
 use Rattle.octets.specs.Bytes.{Bytes, at32}
 use Rattle.definition.specs.Chain.{Entry, onContent, those}
 use Rattle.definition.specs.Alarm.{Alarm}
 use Rattle.definition.specs.Record.{readAlarm}
-use Rattle.definition.specs.Book.{Record, headOf, lastOf, readBook}
+use Rattle.definition.specs.Book.{Record, lastOf, readBook}
 use Rattle.definition.specs.Station.{forEach}
 use Rattle.definition.specs.Steps.{isDueEntry, retireDue}
 use Rattle.definition.specs.MoveLaws.{Does}
 use Rattle.history.specs.Meaning.{Newest}
+use Rattle.history.specs.Walk.{Along}
 use Rattle.expiry.specs.declared.Stand.{Stand}
 
 -- those of a chain that are due
@@ -28,9 +29,8 @@ pub record Sweep (cutoff : ℕ) (b₀ b : Bytes) (n at : ℕ) (s : Stand) (k : �
   pub newest : Newest b (s .newest)
   pub kept : List Record
   pub rest : List Record
-  pub chain : readBook b .active ≡ kept ++ rest
+  pub along : Along b 0 at kept rest
   pub left : k + length rest ≡ n
-  pub starts : at ≡ headOf rest
   pub before : s .kept ≡ lastOf kept
   pub few : s .expired ≤ k
   pub counted : s .expired + length (dueOf cutoff rest) ≡ length (dueOf cutoff (readBook b₀ .active))

@@ -1,26 +1,24 @@
 -- Laws of the sweep: how it starts, what it meets, how it goes on, and what it has done at its end.
-use Prim.Native.Nat.{ℕ, zero, suc, _+_, _*_, _≤_, _<_}
+use Prim.Native.Nat.{ℕ, suc, _+_, _*_, _≤_, _<_}
 use mathlib.Core.Path.{_≡_, refl, sym, ap, _∙_, subst}
-use mathlib.Core.List.{List, [], _∷_, _++_, map, append-assoc}
-use mathlib.Core.Bool.{Bool, true, false}
+use mathlib.Core.List.{List, [], _∷_, _++_, map}
+use mathlib.Core.Bool.{true, false}
 use native.Mathlib.Omega.{arith}
 use native.Mathlib.Decide.{ℕ-discrete}
 use borrow.Author.Tests.{eq-eqb, ne-eqb}
 use lib.Dec.{T}
-use lib.ListN.{length}
+use lib.ListN.{length, drop}
 use Rattle.octets.specs.Bytes.{Bytes, at32}
 use Rattle.octets.specs.Put.{Put}
 use Rattle.definition.specs.Chain.{Entry, onContent, entry, those, without}
 use Rattle.definition.specs.ChainLaws.{without-map}
 use Rattle.definition.specs.Alarm.{Alarm, isDue}
 use Rattle.definition.specs.Record.{lastActive, lastState, alarmBytes, readAlarm}
-use Rattle.definition.specs.Book.{Record, recordOf, headOf, lastOf, times, readBook, walk}
-use Rattle.definition.specs.BookChainLaws.{times-hit, times-miss, times-append}
+use Rattle.definition.specs.Book.{Record, recordOf, lastOf, times, readBook}
+use Rattle.definition.specs.BookChainLaws.{times-hit, times-miss}
 use Rattle.definition.specs.BookSplitLaws.{prevOf, lastFrom, last-from-zero}
 use Rattle.definition.specs.BookLegalLaws as L
-use Rattle.definition.specs.BookWithLaws.{total-on}
-use Rattle.definition.specs.BookSoundLaws.{head-at, length-at, link-at}
-use Rattle.definition.specs.BookSoundnessLaws.{chain-read}
+use Rattle.definition.specs.BookSoundLaws.{length-at}
 use Rattle.definition.specs.Fields.{Time}
 use Rattle.definition.specs.ChangeLaws.{expired-legal}
 use Rattle.definition.specs.Station.{Step, give, forEach}
@@ -33,8 +31,10 @@ use Rattle.definition.specs.MoveLaws.{Does}
 use Rattle.definition.specs.ReplyLaws.{Answers}
 use Rattle.history.specs.Meaning.{IsAlarm, Newest, OnActive, Files}
 use Rattle.history.specs.DoesLaws.{does-then, does-give, does-look, does-end}
-use Rattle.history.specs.HeldLaws.{alarm-payload, payload-legal, on-station, on-fits}
-use Rattle.state.specs.ActLaws.{on-alarm}
+use Rattle.history.specs.Walk.{alarmAt}
+use Rattle.history.specs.WalkLaws.{along-start, along-here, along-parts, along-on, along-once, along-fits, along-link, along-next}
+use Rattle.history.specs.CountLaws.{those-hit, those-miss}
+use Rattle.history.specs.HeldLaws.{alarm-payload, payload-legal, on-station, on-alarm}
 use Rattle.answers.specs.AnswerLaws.{answers-put}
 use Rattle.expiry.specs.Sweep.{dueOf, Swept, Sweep}
 use Rattle.expiry.specs.declared.Stand.{Stand}
@@ -64,39 +64,18 @@ last-behind [] e = refl
 last-behind (d ∷ []) e = refl
 last-behind (d ∷ (f ∷ a)) e = last-behind (f ∷ a) e
 
--- a record on a way by links is the register's
-walk-record : (b : Bytes) (n i : ℕ) (a : List Record) (e : Record) (t : List Record) → walk b n i ≡ a ++ (e ∷ t) → e ≡ recordOf b (e .index)
-unfolding walk
-walk-record b zero i [] e t p = absurd (let z : _≡_ {A = ℕ} 0 1 = cc in omega arith)
-walk-record b zero i (d ∷ a) e t p = absurd (let z : _≡_ {A = ℕ} 0 1 = cc in omega arith)
-walk-record b (suc n) i [] e t p =
-    let q : recordOf b i ≡ e = cc in
-    sym q ∙ ap (recordOf b) (ap (λ (r : Record). r .index) q)
-walk-record b (suc n) i (d ∷ a) e t p =
-    let q : walk b n (at32 b (1536 * i)) ≡ a ++ (e ∷ t) = cc in
-    walk-record b n (at32 b (1536 * i)) a e t q
-
 -- ---- an alarm that expires
 
 module _ (b q p : Bytes) (i cutoff : ℕ) (h : T (sound b)) (o : OnActive b i) (t : Time cutoff) (l : q ≡ recordOf b i .content) (e : p ≡ alarmBytes (expiredBy cutoff (readAlarm q))) where
   pub expired-payload : IsAlarm lastState p × (readAlarm p ≡ expiredBy cutoff (readAlarm (recordOf b i .content)))
   expired-payload =
       alarm-payload lastState (expiredBy cutoff (readAlarm (recordOf b i .content))) p (e ∙ ap (λ (r : Bytes). alarmBytes (expiredBy cutoff (readAlarm r))) l)
-      (expired-legal cutoff _ t (payload-legal lastActive (recordOf b i .content) (on-alarm b i h o .legal)))
+      (expired-legal cutoff _ t (payload-legal lastActive (recordOf b i .content) (on-alarm b h i o .legal)))
 
   pub expires : (b′ : Bytes) (last : ℕ) → Files (retire i (readAlarm p)) b b′ last → Files (retire i (expiredBy cutoff (readAlarm (recordOf b i .content)))) b b′ last
   expires b′ last f = subst (λ (a : Alarm). Files (retire i a) b b′ last) (expired-payload .1) f
 
--- ---- those that pass a test, and a step for each
-
-module _ {A : Type 0} (t : A → Bool) (a : A) (l : List A) where
-  hit : t a ≡ true → those t (a ∷ l) ≡ a ∷ those t l
-  unfolding those
-  hit e = rw e
-
-  miss : t a ≡ false → those t (a ∷ l) ≡ those t l
-  unfolding those
-  miss e = rw e
+-- ---- a step for each
 
 module _ {A : Type 0} (m : A → Step (Unit {0})) where
   each-none : (b : Bytes) → T (sound b) → Does (forEach [] m) b b tt
@@ -125,128 +104,89 @@ gone b c i a h o d =
 pub sweep-start :
     (cutoff : ℕ) (b : Bytes) (n at last : ℕ) → Newest b last → n ≡ at32 b 16 → at ≡ at32 b 12 → Sweep cutoff b b n at (record { newest = last; kept = 0; expired = 0 }) 0
 unfolding lastOf
-sweep-start cutoff b n at last w hn ha =
-    let s = sound-holds b (w .whole) .book in
-    record {
-      newest = w;
-      kept = [];
-      rest = readBook b .active;
-      chain = refl;
-      left = omega (arith, hn, length-at b s 0 (omega arith));
-      starts = ha ∙ head-at b s 0 (omega arith);
-      before = refl;
-      few = omega arith;
-      counted = omega arith;
-      whole = λ c d. d;
-    }
+sweep-start cutoff b n at last w hn ha = record {
+  newest = w;
+  kept = [];
+  rest = readBook b .active;
+  along = along-start (w .whole) (omega arith) ha;
+  left = omega (arith, hn, length-at b (sound-holds b (w .whole) .book) 0 (omega arith));
+  before = refl;
+  few = omega arith;
+  counted = omega arith;
+  whole = λ c d. d;
+}
 
 module _ (cutoff : ℕ) (b₀ b : Bytes) (n at : ℕ) (s : Stand) (k : ℕ) (w : Sweep cutoff b₀ b n at s k) where
-  book : L.Sound b
-  book = sound-holds b (w .newest .whole) .book
-
-  -- the record that the sweep is at, and those behind it
-  record Here : Type 0 where
-    here : Record
-    behind : List Record
-    rest-is : w .rest ≡ here ∷ behind
-    chain-is : readBook b .active ≡ w .kept ++ (here ∷ behind)
-    index-is : here .index ≡ at
-    alone : times (here .index) (w .kept) ≡ 0
-    record-is : here ≡ recordOf b at
-
-  meets : k < n → Here
-  unfolding headOf
-  meets h = go (w .rest) refl
-    where
-      go : (r : List Record) → w .rest ≡ r → Here
-      go [] p = absurd (omega (arith, w .left, ap length p))
-      go (e ∷ t) p =
-          let c : readBook b .active ≡ w .kept ++ (e ∷ t) = w .chain ∙ ap (λ (r : List Record). w .kept ++ r) p in
-          let i : e .index ≡ at = sym (w .starts ∙ ap headOf p) in
-          record {
-            here = e;
-            behind = t;
-            rest-is = p;
-            chain-is = c;
-            index-is = i;
-            alone = omega (
-              arith,
-              total-on 0 (readBook b) (e .index) (omega arith),
-              L.fair (book .legal) .once (e .index),
-              ap (times (e .index)) c,
-              times-append (w .kept) (e ∷ t) (e .index),
-              times-hit e t (e .index) refl,
-            );
-            record-is = walk-record b _ _ (w .kept) e t (sym (chain-read b 0 (omega arith)) ∙ c) ∙ ap (recordOf b) i;
-          }
-
   module _ (h : k < n) where
-    x : Here
-    x = meets h
+    ahead : 1 ≤ length (w .rest)
+    ahead = omega (arith, w .left)
 
-    pub meets-on : OnActive b at
-    meets-on =
-        subst (λ (i : ℕ). OnActive b i) (x .index-is)
-        (omega (arith, ap (times (x .here .index)) (x .chain-is), times-append (w .kept) (x .here ∷ x .behind) (x .here .index), times-hit (x .here) (x .behind) (x .here .index) refl))
+    -- the record that the sweep is at, and those behind it
+    abbrev here : Record
+    here = recordOf b at
+
+    abbrev behind : List Record
+    behind = drop 1 (w .rest)
+
+    shorter : length (w .rest) ≡ suc (length behind)
+    shorter = ap length (along-here (w .along) ahead)
+
+    once : times at (w .kept) ≡ 0
+    once = along-once (w .along) ahead
 
     pub meets-fits : 1536 * at + 1536 ≤ length b
-    meets-fits = on-fits b (w .newest .whole) 0 at (omega arith) meets-on
+    meets-fits = along-fits (w .along) ahead
 
     pub meets-free : L.CanRelease b 0 at (s .kept)
     meets-free = record {
-      sound = book;
+      sound = sound-holds b (w .newest .whole) .book;
       which = omega arith;
-      on = meets-on;
+      on = along-on (w .along) ahead;
       before =
-          w .before ∙ sym (last-from-zero (w .kept)) ∙ sym (prev-at (x .here) (x .behind) 0 (w .kept) (x .alone))
-          ∙ ap (prevOf 0 (x .here .index)) (sym (x .chain-is)) ∙ ap (λ (i : ℕ). prevOf 0 i (readBook b .active)) (x .index-is);
+          w .before ∙ sym (last-from-zero (w .kept)) ∙ sym (prev-at here behind 0 (w .kept) once)
+          ∙ ap (prevOf 0 at) (sym (along-parts (w .along) ahead));
     }
 
-    next-is : (r : ℕ) → r ≡ at32 b (1536 * at) → r ≡ headOf (x .behind)
-    next-is r e = e ∙ ap (λ (i : ℕ). at32 b (1536 * i)) (sym (x .index-is)) ∙ link-at b book 0 (omega arith) (w .kept) (x .here) (x .behind) (x .chain-is)
-
     abbrev alarm : Alarm
-    alarm = readAlarm (recordOf b at .content)
+    alarm = alarmAt b at
 
     -- the rest in terms of the record met
-    due-rest : dueOf cutoff (w .rest) ≡ those (isDueEntry cutoff) (entry at alarm ∷ map (onContent readAlarm) (x .behind))
-    due-rest = ap (dueOf cutoff) (x .rest-is) ∙ ap (λ (e : Record). those (isDueEntry cutoff) (onContent readAlarm e ∷ map (onContent readAlarm) (x .behind))) (x .record-is)
+    due-rest : dueOf cutoff (w .rest) ≡ those (isDueEntry cutoff) (entry at alarm ∷ map (onContent readAlarm) behind)
+    due-rest = ap (dueOf cutoff) (along-here (w .along) ahead)
 
     pub sweep-kept : isDue cutoff alarm ≡ false → (r : ℕ) → r ≡ at32 b (1536 * at) → Sweep cutoff b₀ b n r (record { newest = s .newest; kept = at; expired = s .expired }) (k + 1)
     sweep-kept not-due r e =
-        let d : dueOf cutoff (w .rest) ≡ dueOf cutoff (x .behind) = due-rest ∙ skipped in
+        let d : dueOf cutoff (w .rest) ≡ dueOf cutoff behind = due-rest ∙ those-miss (isDueEntry cutoff) (entry at alarm) _ not-due in
         record {
           newest = w .newest;
-          kept = w .kept ++ (x .here ∷ []);
-          rest = x .behind;
-          chain = x .chain-is ∙ sym (append-assoc (w .kept) (x .here ∷ []) (x .behind));
-          left = omega (arith, w .left, ap length (x .rest-is));
-          starts = next-is r e;
-          before = sym (last-behind (w .kept) (x .here) ∙ x .index-is);
+          kept = w .kept ++ (here ∷ []);
+          rest = behind;
+          along = along-next (w .along) ahead e;
+          left = omega (arith, w .left, shorter);
+          before = sym (last-behind (w .kept) here);
           few = omega (arith, w .few);
           counted = omega (arith, w .counted, ap length d);
           whole = λ c f. w .whole c (subst (λ (l : List (Entry Alarm)). Does (forEach l (retireDue cutoff)) b c tt) (sym d) f);
         }
-      where
-        skipped : those (isDueEntry cutoff) (entry at alarm ∷ map (onContent readAlarm) (x .behind)) ≡ dueOf cutoff (x .behind)
-        skipped = miss (isDueEntry cutoff) (entry at alarm) _ not-due
 
     pub sweep-due :
         isDue cutoff alarm ≡ true → (c : Bytes) (new : ℕ) → Files (retire at (expiredBy cutoff alarm)) b c new → (r : ℕ) → r ≡ at32 b (1536 * at) →
         Sweep cutoff b₀ c n r (record { newest = new; kept = s .kept; expired = s .expired + 1 }) (k + 1)
     sweep-due is-due c new f r e =
-        let d : dueOf cutoff (w .rest) ≡ entry at alarm ∷ dueOf cutoff (x .behind) = due-rest ∙ hit (isDueEntry cutoff) (entry at alarm) _ is-due in
-        let i = x .here .index in
+        let d : dueOf cutoff (w .rest) ≡ entry at alarm ∷ dueOf cutoff behind = due-rest ∙ those-hit (isDueEntry cutoff) (entry at alarm) _ is-due in
         record {
           newest = record { whole = f .does .sound; is = f .is };
           kept = w .kept;
-          rest = x .behind;
-          chain =
-              gone b c at (expiredBy cutoff alarm) (w .newest .whole) meets-on (f .does)
-              ∙ ap (λ (j : ℕ). without j (readBook b .active)) (sym (x .index-is)) ∙ ap (without i) (x .chain-is)
-              ∙ without-at (x .here) (x .behind) (w .kept) (x .alone);
-          left = omega (arith, w .left, ap length (x .rest-is));
-          starts = next-is r e;
+          rest = behind;
+          along = record {
+            whole = f .does .sound;
+            which = omega arith;
+            parts =
+                gone b c at (expiredBy cutoff alarm) (w .newest .whole) (along-on (w .along) ahead) (f .does)
+                ∙ ap (without at) (along-parts (w .along) ahead) ∙ without-at here behind (w .kept) once;
+            starts = along-link (w .along) ahead e;
+          };
+          left = omega (arith, w .left, shorter);
           before = w .before;
           few = omega (arith, w .few);
           counted = omega (arith, w .counted, ap length d);

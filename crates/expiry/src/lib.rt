@@ -2,7 +2,6 @@
 ghost use mathlib.Core.Path.{_≡_};
 ghost use Prim.Native.Nat.{_+_, _*_, _≤_, _<_};
 ghost use lib.ListN.{length};
-ghost use Rattle.octets.specs.Bytes.{at32};
 ghost use Rattle.definition.specs.Alarm.{isDue};
 ghost use Rattle.definition.specs.Record.{readAlarm};
 ghost use Rattle.definition.specs.Book.{recordOf};
@@ -12,14 +11,7 @@ ghost use Rattle.definition.specs.ReplyLaws.{Answers};
 ghost use Rattle.history.specs.Meaning.{Newest, Files};
 ghost use Rattle.expiry.specs.Sweep.{Swept, Passes};
 use model::Record;
-
-// The index of the record that follows record i.
-fn next_of(register: &[u8], i: u32) -> u32
-    requires { ⌜ 1536 * i + 1536 ≤ length (now register) ⌝ }
-    ensures { λ r. ⌜ r ≡ at32 (now (register .entry)) (1536 * i) ⌝ }
-{
-    octets::get32(register, Record::WIDTH * (i as usize))
-}
+use register::ACTIVE;
 
 // Whether record i's alarm is due.
 fn is_due(register: &[u8], i: u32, cutoff: u64) -> bool
@@ -72,8 +64,8 @@ fn sweep(register: &mut [u8], last: u32, cutoff: u64) -> u32
     requires { ⌜ Newest (now register) last ⌝ }
     ensures { λ r. ⌜ Swept cutoff (now (register .entry)) (now (register .exit)) r ⌝ }
 {
-    let n = octets::get32(register, 16);
-    let mut at = octets::get32(register, 12);
+    let n = history::held(register, ACTIVE);
+    let mut at = history::first(register, ACTIVE);
     let mut s = Stand {
         newest: last,
         kept: 0,
@@ -81,7 +73,7 @@ fn sweep(register: &mut [u8], last: u32, cutoff: u64) -> u32
     };
     let mut k = 0;
     while k < n {
-        let next = next_of(register, at);
+        let next = history::next(register, at);
         s = pass(register, at, s, cutoff);
         at = next;
         k += 1;

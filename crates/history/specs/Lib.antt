@@ -1,4 +1,7 @@
 pub mod Meaning
+pub mod Walk
 pub mod DoesLaws
 pub mod HeldLaws
+pub mod WalkLaws
+pub mod CountLaws
 pub mod FileLaws

@@ -1,5 +1,2 @@
 pub mod Meaning
-pub mod ThoseLaws
-pub mod WayLaws
-pub mod LoopLaws
 pub mod ListLaws

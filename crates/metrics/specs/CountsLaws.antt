@@ -16,9 +16,11 @@ use Rattle.definition.specs.Sound.{station, sound}
 use Rattle.definition.specs.MoveLaws.{Does}
 use Rattle.definition.specs.ReplyLaws.{Answers, Refuses}
 use Rattle.history.specs.DoesLaws.{does-look}
+use Rattle.history.specs.WalkLaws.{reached-length}
 use Rattle.answers.specs.AnswerLaws.{length-answer, listHead, put-list}
 use Rattle.reply.specs.ReplyLaws.{answered, refused}
-use Rattle.metrics.specs.Meaning.{activeAlarms, ratings, settled, unmarked, entries, listing, Settled}
+use Rattle.history.specs.Walk.{alarmsOn}
+use Rattle.metrics.specs.Meaning.{ratings, settled, unmarked, entries, listing, Settled}
 use Rattle.metrics.specs.MarkLaws.{settled-firsts, Marked, settled-all}
 
 pub settled-zeros : {b ms ns : Bytes} {n k at : ℕ} → Marked b settled ms ns n 0 k at → n ≤ k → ms ≡ zeros (length ms) → Settled (ratings b) ns
@@ -26,7 +28,7 @@ settled-zeros {b} {ms} w l z =
     record {
       firsts =
           ap (unmarked (ratings b)) (settled-all w l ∙ ap (settled (ratings b)) z)
-          ∙ settled-firsts (ratings b) (length ms) (omega (arith, w .reached .held, w .room, w .size, length-map rating (activeAlarms b)));
+          ∙ settled-firsts (ratings b) (length ms) (omega (arith, reached-length (w .reached), w .room, w .size, length-map rating (alarmsOn 0 b)));
     }
 
 -- no place is marked at first

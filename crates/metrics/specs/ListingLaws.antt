@@ -1,7 +1,7 @@
 -- The entries of the places without a mark: how long they are, and how they are written one behind the other.
 use Prim.Native.Nat.{ℕ, _+_, _*_, _≤_, _<_}
 use mathlib.Core.Path.{_≡_, refl, sym, ap, _∙_, subst}
-use mathlib.Core.List.{List, [], _∷_, _++_, append-assoc, append-nil, map}
+use mathlib.Core.List.{List, [], _∷_, _++_, map}
 use mathlib.Core.Bool.{Bool, true, false, cond}
 use native.Mathlib.Omega.{arith}
 use borrow.Author.Tests.{eq-eqb}
@@ -10,8 +10,6 @@ use lib.ListN.{length, take, drop, getD, length-append, length-take, length-drop
 use Rattle.octets.specs.Bytes.{Bytes, at32, be32, value}
 use Rattle.octets.specs.NumberLaws.{length-be32}
 use Rattle.octets.specs.Put.{Put}
-use Rattle.octets.specs.PutLaws.{put-two, put-as}
-use Rattle.octets.specs.SpliceLaws.{length-splice}
 use Rattle.definition.specs.Key.{string}
 use Rattle.definition.specs.KeyLaws.{length-string}
 use Rattle.definition.specs.Slot.{cut}
@@ -19,9 +17,10 @@ use Rattle.definition.specs.Record.{readAlarm}
 use Rattle.definition.specs.Answer.{Count, countEntries}
 use Rattle.definition.specs.Book.{recordOf}
 use Rattle.definition.specs.Reports.{Rating, rating, countOf}
-use Rattle.answers.specs.AnswerLaws.{put-none}
-use Rattle.metrics.specs.Meaning.{Reached, alarmAt, ratings, ratingAt, unmarked, entryBytes, entryAt, entries, listing, listingFrom, sizeAt}
-use Rattle.metrics.specs.WalkLaws.{reached-next, reached-here, reached-end}
+use Rattle.answers.specs.EntryLaws.{Begun, begun-none, begun-fits, begun-next, begun-all}
+use Rattle.history.specs.Walk.{alarmAt, Reached}
+use Rattle.history.specs.WalkLaws.{reached-next, field-here, field-end}
+use Rattle.metrics.specs.Meaning.{ratings, ratingAt, unmarked, entryBytes, entryAt, entries, listing, listingFrom, sizeAt}
 use Rattle.metrics.specs.MarkLaws.{mark-here}
 
 -- ---- place by place
@@ -95,14 +94,14 @@ entry-fits b i m at n s z e f =
 
 -- of n records k are passed: e entries, which end at place m of the answer
 pub record Measured (b ms : Bytes) (n k at e m : ℕ) : Type 0 where
-  pub reached : Reached b n k at
+  pub reached : Reached b 0 n k at
   pub room : n ≤ length ms
   pub few : e ≤ k
   pub small : m ≤ 16 + 105 * k
   pub amount : e + length (unmarked (drop k (ratings b)) (drop k ms)) ≡ length (unmarked (ratings b) ms)
   pub bytes : m + length (listingFrom k b ms) ≡ 16 + length (listing b ms)
 
-pub measured-none : {b : Bytes} (ms : Bytes) {n at : ℕ} → Reached b n 0 at → n ≤ length ms → Measured b ms n 0 at 0 16
+pub measured-none : {b : Bytes} (ms : Bytes) {n at : ℕ} → Reached b 0 n 0 at → n ≤ length ms → Measured b ms n 0 at 0 16
 measured-none ms w h = record { reached = w; room = h; few = omega arith; small = omega arith; amount = omega arith; bytes = omega arith }
 
 module _ {b ms : Bytes} {n k at e m : ℕ} (w : Measured b ms n k at e m) where
@@ -116,7 +115,7 @@ module _ {b ms : Bytes} {n k at e m : ℕ} (w : Measured b ms n k at e m) where
 
     pub measured-next : {e′ r : ℕ} → e′ ≡ cond (eqb (getD ms k 0) 0) (e + 1) e → r ≡ at32 b (1536 * at) → Measured b ms n (k + 1) r e′ (m + d)
     measured-next {e′} ee er =
-        let here = reached-here (w .reached) l rating in
+        let here = field-here (w .reached) l rating in
         let more : e′ + length (unmarked (drop (k + 1) (ratings b)) (drop (k + 1) ms)) ≡ e + length (unmarked (drop k (ratings b)) (drop k ms)) =
         rw ee (unmarked-next b k ms (ratingAt b at) here (omega (arith, w .room)) e) in
         let longer : length (listingFrom k b ms) ≡ d + length (listingFrom (k + 1) b ms) =
@@ -137,7 +136,7 @@ module _ {b ms : Bytes} {n k at e m : ℕ} (w : Measured b ms n k at e m) where
 
   pub measured-all : n ≤ k → (e ≡ length (unmarked (ratings b) ms)) × (m ≡ 16 + length (listing b ms))
   measured-all l =
-      let end = reached-end (w .reached) rating l in (
+      let end = field-end (w .reached) l rating in (
         omega (arith, w .amount, unmarked-end b k ms end),
         omega (arith, w .bytes, ap length (listing-end b k ms end)),
       )
@@ -146,37 +145,27 @@ module _ {b ms : Bytes} {n k at e m : ℕ} (w : Measured b ms n k at e m) where
 
 -- of n records k are passed, and their entries stand in the answer, which was a and is c, up to place m
 pub record Written (b ms a c : Bytes) (n k at m : ℕ) : Type 0 where
-  pub reached : Reached b n k at
+  pub reached : Reached b 0 n k at
   pub room : n ≤ length ms
-  pub fits : 16 + length (listing b ms) ≤ length a
-  pub text : Bytes
-  pub put : Put a 16 text m c
-  pub rest : text ++ listingFrom k b ms ≡ listing b ms
+  pub begun : Begun (listing b ms) (listingFrom k b ms) a c m
 
-pub written-none : {b : Bytes} (ms a : Bytes) {n at : ℕ} → Reached b n 0 at → n ≤ length ms → 16 + length (listing b ms) ≤ length a → Written b ms a a n 0 at 16
-written-none ms a w h f = record { reached = w; room = h; fits = f; text = []; put = put-none a 16 (omega arith); rest = refl }
+pub written-none : {b : Bytes} (ms a : Bytes) {n at : ℕ} → Reached b 0 n 0 at → n ≤ length ms → 16 + length (listing b ms) ≤ length a → Written b ms a a n 0 at 16
+written-none ms a w h f = record { reached = w; room = h; begun = begun-none f }
 
 module _ {b ms a c : Bytes} {n k at m : ℕ} (w : Written b ms a c n k at m) where
-  pub written-length : length c ≡ length a
-  written-length = ap length (w .put .bytes) ∙ length-splice a 16 (w .text) (omega (arith, w .put .next, w .put .fits))
-
   module _ (l : k < n) where
     abbrev piece : Bytes
     piece = entryAt b (ratingAt b at) (getD ms k 0)
 
-    ahead : (w .text ++ piece) ++ listingFrom (k + 1) b ms ≡ listing b ms
-    ahead =
-        append-assoc (w .text) piece _
-        ∙ ap (λ (t : Bytes). w .text ++ t) (sym (listing-next b k ms (ratingAt b at) (reached-here (w .reached) l rating) (omega (arith, w .room)))) ∙ w .rest
+    starts : listingFrom k b ms ≡ piece ++ listingFrom (k + 1) b ms
+    starts = listing-next b k ms (ratingAt b at) (field-here (w .reached) l rating) (omega (arith, w .room))
 
     -- the next entry fits
     pub written-fits : m + length piece ≤ length c
-    written-fits =
-        omega (arith, w .put .next, ap length ahead, length-append (w .text ++ piece) (listingFrom (k + 1) b ms), length-append (w .text) piece, written-length, w .fits)
+    written-fits = begun-fits (w .begun) piece (listingFrom (k + 1) b ms) starts
 
     pub written-next : {d : Bytes} {m′ r : ℕ} → Put c m piece m′ d → r ≡ at32 b (1536 * at) → Written b ms a d n (k + 1) r m′
-    written-next p er = record { reached = reached-next (w .reached) l er; room = w .room; fits = w .fits; text = w .text ++ piece; put = put-two (w .put) p; rest = ahead }
+    written-next p er = record { reached = reached-next (w .reached) l er; room = w .room; begun = begun-next (w .begun) piece (listingFrom (k + 1) b ms) starts p }
 
   pub written-all : n ≤ k → Put a 16 (listing b ms) m c
-  written-all l =
-      put-as (sym (append-nil (w .text)) ∙ ap (λ (t : Bytes). w .text ++ t) (sym (listing-end b k ms (reached-end (w .reached) rating l))) ∙ w .rest) (w .put)
+  written-all l = begun-all (w .begun) (listing-end b k ms (field-end (w .reached) l rating))

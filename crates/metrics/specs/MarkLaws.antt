@@ -12,8 +12,9 @@ use lib.Seq.{take-suc, take-suc-set, drop-cons, drop-set-lt, take-at, drop-at, l
 use Rattle.octets.specs.Bytes.{Bytes, zeros, at32}
 use Rattle.definition.specs.Chain.{those}
 use Rattle.definition.specs.Reports.{Rating, rating, sameRating, firstsFrom}
-use Rattle.metrics.specs.Meaning.{Reached, ratings, ratingAt, marking, settled, fromPlace, unmarked}
-use Rattle.metrics.specs.WalkLaws.{reached-next, reached-here, reached-end}
+use Rattle.history.specs.Walk.{Reached}
+use Rattle.history.specs.WalkLaws.{reached-next, field-here, field-end}
+use Rattle.metrics.specs.Meaning.{ratings, ratingAt, marking, settled, fromPlace, unmarked}
 
 -- ---- the places without a mark are the first appearances
 
@@ -101,12 +102,12 @@ module _ (l : List Rating) (k : ℕ) where
 
 -- the change f goes on from place k, at which the walk is, as from place j before: the marks were ms and are ns
 pub record Marked (b : Bytes) (f : List Rating → Bytes → Bytes) (ms ns : Bytes) (n j k at : ℕ) : Type 0 where
-  pub reached : Reached b n k at
+  pub reached : Reached b 0 n k at
   pub size : length ns ≡ length ms
   pub room : n ≤ length ns
   pub same : fromPlace f k (ratings b) ns ≡ fromPlace f j (ratings b) ms
 
-pub marked-none : {b : Bytes} (f : List Rating → Bytes → Bytes) (ms : Bytes) {n j at : ℕ} → Reached b n j at → n ≤ length ms → Marked b f ms ms n j j at
+pub marked-none : {b : Bytes} (f : List Rating → Bytes → Bytes) (ms : Bytes) {n j at : ℕ} → Reached b 0 n j at → n ≤ length ms → Marked b f ms ms n j j at
 marked-none f ms w h = record { reached = w; size = refl; room = h; same = refl }
 
 module _ {b : Bytes} (p : Rating) {ms ns : Bytes} {n j k at : ℕ} (w : Marked b (marking p) ms ns n j k at) where
@@ -117,11 +118,11 @@ module _ {b : Bytes} (p : Rating) {ms ns : Bytes} {n j k at : ℕ} (w : Marked b
         reached = reached-next (w .reached) l er;
         size = length-set ns k v ∙ w .size;
         room = omega (arith, length-set ns k v, w .room);
-        same = marking-next (ratings b) k (ratingAt b at) (reached-here (w .reached) l rating) ns (omega (arith, w .room)) p v (rw et at ev) ∙ w .same;
+        same = marking-next (ratings b) k (ratingAt b at) (field-here (w .reached) l rating) ns (omega (arith, w .room)) p v (rw et at ev) ∙ w .same;
       }
 
   pub marked-all : n ≤ k → ns ≡ fromPlace (marking p) j (ratings b) ms
-  marked-all l = sym (marking-end (ratings b) k p ns (reached-end (w .reached) rating l)) ∙ w .same
+  marked-all l = sym (marking-end (ratings b) k p ns (field-end (w .reached) l rating)) ∙ w .same
 
 module _ {b ms ns : Bytes} {n j k at : ℕ} (w : Marked b settled ms ns n j k at) where
   pub settled-place :
@@ -130,4 +131,4 @@ module _ {b ms ns : Bytes} {n j k at : ℕ} (w : Marked b settled ms ns n j k at
   settled-place l size e er = record { reached = reached-next (w .reached) l er; size = size ∙ w .size; room = omega (arith, w .room); same = e ∙ w .same }
 
   pub settled-all : n ≤ k → ns ≡ fromPlace settled j (ratings b) ms
-  settled-all l = sym (settled-end (ratings b) k ns (reached-end (w .reached) rating l)) ∙ w .same
+  settled-all l = sym (settled-end (ratings b) k ns (field-end (w .reached) l rating)) ∙ w .same

@@ -1,33 +1,17 @@
--- What the code says of the active chain: where a walk along it is, which ratings appear first, and their entries in the answer.
-use Prim.Native.Nat.{ℕ, suc, _+_, _-_, _*_, _≤_}
+-- What the code says of the active chain: which ratings appear first, and their entries in the answer.
+use Prim.Native.Nat.{ℕ, _+_, _*_, _≤_}
 use mathlib.Core.Path.{_≡_}
 use mathlib.Core.List.{List, [], _∷_, _++_, map}
 use mathlib.Core.Bool.{cond}
 use lib.Dec.{eqb}
 use lib.ListN.{length, take, drop}
 use Rattle.octets.specs.Bytes.{Bytes, be32}
-use Rattle.definition.specs.Chain.{contents}
 use Rattle.definition.specs.Key.{string}
-use Rattle.definition.specs.Alarm.{Alarm}
-use Rattle.definition.specs.Record.{readAlarm}
 use Rattle.definition.specs.Answer.{Count, countEntries}
-use Rattle.definition.specs.Book.{Record, recordOf, capacity, readBook, walk}
-use Rattle.definition.specs.BookCheckLaws.{Leads}
 use Rattle.definition.specs.Reports.{Rating, rating, sameRating, countOf, firstsFrom}
-use Rattle.definition.specs.Sound.{station}
+use Rattle.history.specs.Walk.{alarmAt, alarmsOn}
 
 -- ---- the active chain
-
--- the alarm in record i
-abbrev pub alarmAt : Bytes → ℕ → Alarm
-alarmAt b i = readAlarm (recordOf b i .content)
-
--- the active alarms, in chain order
-abbrev pub activeAlarms : Bytes → List Alarm
-activeAlarms b = contents (station b .active)
-
-abbrev pub alarmIn : Record → Alarm
-alarmIn e = readAlarm (e .content)
 
 -- record i lies in the register
 abbrev pub Fits : Bytes → ℕ → Type 0
@@ -35,20 +19,11 @@ Fits b i = 1536 * i + 1536 ≤ length b
 
 -- the ratings of the active alarms, in chain order
 abbrev pub ratings : Bytes → List Rating
-ratings b = map rating (activeAlarms b)
+ratings b = map rating (alarmsOn 0 b)
 
 -- that of record i
 abbrev pub ratingAt : Bytes → ℕ → Rating
 ratingAt b i = rating (alarmAt b i)
-
--- a walk along the active chain: of n records k are passed, and it is at record `at`
-pub record Reached (b : Bytes) (n k at : ℕ) : Type 0 where
-  pub held : n ≡ length (activeAlarms b)
-  pub most : n ≤ 65535
-  pub within : k ≤ n
-  pub size : length b ≡ 1536 * suc (capacity (readBook b))
-  pub leads : Leads b (capacity (readBook b)) (n - k) at
-  pub rest : map alarmIn (walk b (n - k) at) ≡ drop k (activeAlarms b)
 
 -- ---- marks of places on the active chain: 0 where a rating appears first, else 1
 

@@ -26,8 +26,7 @@ use Rattle.definition.specs.MoveLaws.{Does}
 use Rattle.definition.specs.ReplyLaws.{Answers, Refuses}
 use Rattle.history.specs.Meaning.{IsAlarm, OnActive, Changes}
 use Rattle.history.specs.DoesLaws.{does-then, does-look, does-yes, does-no}
-use Rattle.history.specs.HeldLaws.{Held, alarm-payload, payload-legal}
-use Rattle.state.specs.ActLaws.{on-alarm}
+use Rattle.history.specs.HeldLaws.{Held, alarm-payload, payload-legal, on-alarm}
 use Rattle.answers.specs.AnswerLaws.{alarm-as, answers-put}
 use Rattle.changes.specs.Meaning.{updatedWith, newsIn, updated-with}
 use Rattle.reply.specs.declared.Reply.{Reply}
@@ -47,7 +46,7 @@ module _ (c : RaiseValue) (b q p : Bytes) (i : ℕ) (h : T (sound b)) (o : OnAct
 
   pub updated-payload : IsAlarm lastActive p × (readAlarm p ≡ alarm)
   updated-payload =
-      alarm-payload lastActive alarm p bytes (updated-legal c (readAlarm (recordOf b i .content)) l (payload-legal lastActive (recordOf b i .content) (on-alarm b i h o .legal)))
+      alarm-payload lastActive alarm p bytes (updated-legal c (readAlarm (recordOf b i .content)) l (payload-legal lastActive (recordOf b i .content) (on-alarm b h i o .legal)))
 
   pub updates : (b′ a a′ : Bytes) (n : ℕ) → Changes i (readAlarm p) b b′ → Put a 0 (headBytes (head 2 1 0) ++ (be32 0 ++ p)) n a′ → Answers (updatesAt b i c) b b′ a a′ n
   updates b′ a a′ n f w =

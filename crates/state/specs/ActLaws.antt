@@ -1,59 +1,36 @@
 -- Acknowledge and suppress, from the moves of the code.
-use Prim.Native.Nat.{ℕ, zero, suc, _*_, _≤_}
+use Prim.Native.Nat.{ℕ, _≤_}
 use mathlib.Core.Path.{_≡_, refl, sym, ap, _∙_, subst}
 use mathlib.Core.List.{_++_}
-use mathlib.Core.Bool.{Bool}
 use mathlib.Core.Option.{none}
 use native.Mathlib.Omega.{arith}
-use native.Mathlib.Decide.{ℕ-discrete}
 use borrow.Author.Tests.{eq-eqb, ne-eqb}
 use lib.Dec.{T, eqb}
-use Rattle.octets.specs.Bytes.{Bytes, be32, at32}
-use Rattle.octets.specs.BoolLaws.{both-left, both-right}
+use Rattle.octets.specs.Bytes.{Bytes, be32}
 use Rattle.octets.specs.Put.{Put}
 use Rattle.octets.specs.PutLaws.{put-as}
 use Rattle.definition.specs.Key.{string}
 use Rattle.definition.specs.Chain.{entry, first}
 use Rattle.definition.specs.Alarm.{Alarm, hasId}
 use Rattle.definition.specs.Record.{lastActive, alarmBytes, readAlarm}
-use Rattle.definition.specs.Book.{Record, recordOf, chain, times, readBook, walk, every}
-use Rattle.definition.specs.BookChainLaws.{times-miss}
-use Rattle.definition.specs.BookSoundnessLaws.{chain-read}
+use Rattle.definition.specs.Book.{recordOf}
 use Rattle.definition.specs.Fields.{Time}
 use Rattle.definition.specs.ChangeLaws.{acted-legal}
 use Rattle.definition.specs.Station.{Step}
 use Rattle.definition.specs.Steps.{Action, acknowledging, suppressing, actionAnswer, notAuthorized, actedOn, act, plainAt, plain, change}
 use Rattle.definition.specs.Answer.{Answer, Unauthorized, NotFound, head, headOf, headBytes, body, alarmRecord, answerBytes}
-use Rattle.definition.specs.Sound.{holdsAlarm, activeSound, soundRecords, station, sound}
+use Rattle.definition.specs.Sound.{station, sound}
 use Rattle.definition.specs.MoveLaws.{Does}
 use Rattle.definition.specs.ReplyLaws.{Answers}
 use Rattle.history.specs.Meaning.{IsAlarm, OnActive, Changes}
 use Rattle.history.specs.DoesLaws.{does-then, does-give, does-look, does-yes, does-no}
-use Rattle.history.specs.HeldLaws.{Held, alarm-payload, is-alarm, payload-legal, records-sound}
+use Rattle.history.specs.HeldLaws.{Held, alarm-payload, payload-legal, on-alarm}
 use Rattle.answers.specs.AnswerLaws.{alarm-as, answer-as, answers-put}
 use Rattle.state.specs.Meaning.{plainOf, actionCode}
 
 -- the same step in other words
 pub answers-as : {m m′ : Step Answer} {b b′ a a′ : Bytes} {n : ℕ} → m ≡ m′ → Answers m b b′ a a′ n → Answers m′ b b′ a a′ n
 answers-as {b = b} {b′} {a} {a′} {n} e w = subst (λ (m : Step Answer). Answers m b b′ a a′ n) e w
-
--- ---- a record of the active chain is a sound alarm
-
-on-walk : (g : Record → Bool) (b : Bytes) (n s i : ℕ) → T (every g (walk b n s)) → 1 ≤ times i (walk b n s) → T (g (recordOf b i))
-unfolding walk every times
-on-walk g b zero s i h o = absurd (omega arith)
-on-walk g b (suc n) s i h o = elim (ℕ-discrete s i) [
-  | yes e ↦ subst (λ (j : ℕ). T (g (recordOf b j))) e (both-left (g (recordOf b s)) (every g (walk b n (at32 b (1536 * s)))) h)
-  | no d ↦ on-walk g b n (at32 b (1536 * s)) i (both-right (g (recordOf b s)) (every g (walk b n (at32 b (1536 * s)))) h)
-      (rw (times-miss (recordOf b s) (walk b n (at32 b (1536 * s))) i d) at o)
-]
-
-pub on-alarm : (b : Bytes) (i : ℕ) → T (sound b) → OnActive b i → IsAlarm lastActive (recordOf b i .content)
-unfolding soundRecords
-on-alarm b i h o =
-    let w = chain-read b 0 (omega arith) in
-    is-alarm lastActive (recordOf b i .content)
-    (on-walk (holdsAlarm lastActive) b _ _ i (rw w at (both-left (activeSound (readBook b)) _ (records-sound b h))) (rw w at o))
 
 -- ---- a record is acted on
 
@@ -73,7 +50,7 @@ module _ (b q p : Bytes) (i : ℕ) (x : Action) (time : ℕ) (h : T (sound b)) (
   bytes = e ∙ ap (λ (r : Bytes). alarmBytes (actedOn x time (readAlarm r))) l
 
   pub acted-payload : IsAlarm lastActive p × (readAlarm p ≡ alarm)
-  acted-payload = alarm-payload lastActive alarm p bytes (acted-legal x time (readAlarm (recordOf b i .content)) t (payload-legal lastActive (recordOf b i .content) (on-alarm b i h o .legal)))
+  acted-payload = alarm-payload lastActive alarm p bytes (acted-legal x time (readAlarm (recordOf b i .content)) t (payload-legal lastActive (recordOf b i .content) (on-alarm b h i o .legal)))
 
   pub acts :
       (b′ a a′ : Bytes) (n c : ℕ) → Changes i (readAlarm p) b b′ → c ≡ actionCode x → Put a 0 (headBytes (head c 1 0) ++ (be32 0 ++ p)) n a′ →

@@ -24,17 +24,16 @@ use Rattle.definition.specs.MoveLaws.{Does}
 use Rattle.definition.specs.ReplyLaws.{Answers}
 use Rattle.history.specs.Meaning.{IsAlarm, OnActive, Files}
 use Rattle.history.specs.DoesLaws.{does-then, does-give, does-look}
-use Rattle.history.specs.HeldLaws.{Held, alarm-payload, payload-legal}
+use Rattle.history.specs.HeldLaws.{Held, alarm-payload, payload-legal, on-alarm}
 use Rattle.answers.specs.AnswerLaws.{answer-as, answers-put}
 use Rattle.state.specs.Meaning.{clearOf, clearedAt}
-use Rattle.state.specs.ActLaws.{on-alarm}
 
 module _ (b q p : Bytes) (i time : ℕ) (h : T (sound b)) (o : OnActive b i) (t : Time time) (l : q ≡ recordOf b i .content) (e : p ≡ alarmBytes (clearedBy time (readAlarm q))) where
   abbrev was : Alarm
   was = readAlarm (recordOf b i .content)
 
   was-legal : LegalAlarm lastActive was
-  was-legal = payload-legal lastActive (recordOf b i .content) (on-alarm b i h o .legal)
+  was-legal = payload-legal lastActive (recordOf b i .content) (on-alarm b h i o .legal)
 
   pub cleared-payload : IsAlarm lastState p × (readAlarm p ≡ clearedBy time was)
   cleared-payload =

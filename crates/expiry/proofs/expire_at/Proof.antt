@@ -5,8 +5,7 @@ use borrow.Author.Needs.{needs}
 use Rattle.octets.specs.Bytes.{Bytes}
 use Rattle.definition.specs.Record.{lastActive}
 use Rattle.history.specs.Meaning.{IsAlarm}
-use Rattle.history.specs.HeldLaws.{on-fits}
-use Rattle.state.specs.ActLaws.{on-alarm}
+use Rattle.history.specs.HeldLaws.{on-fits, on-alarm}
 use Rattle.expiry.specs.SweepLaws.{expired-payload, expires}
 use Rattle.expiry.proofs.expire_at.Statement.{statement}
 use Rattle.expiry.proofs.expire_at.Tie as tie
@@ -19,7 +18,7 @@ expired-by-requires : tie.Need-expired-by-requires
 expired-by-requires c κs =
     let l = c .before .before in
     let s = l .before .before .before .before in
-    subst (λ (p : Bytes). IsAlarm lastActive p) (sym (l .load .ensures)) (on-alarm _ _ (s .pre .0 .whole) (s .pre .1 .on))
+    subst (λ (p : Bytes). IsAlarm lastActive p) (sym (l .load .ensures)) (on-alarm _ (s .pre .0 .whole) _ (s .pre .1 .on))
 
 retire-requires : tie.Need-retire-requires
 retire-requires c κs =

@@ -1,21 +1,16 @@
 -- `is_due`: the time of the last update is compared.
 use mathlib.Core.Path.{ap, _∙_}
-use Prim.Native.Nat.{ℕ, _+_, _*_}
-use native.Mathlib.Omega.{arith}
+use Prim.Native.Nat.{ℕ}
 use borrow.Author.Needs.{needs}
-use lib.ListN.{length}
-use denote.Ref.{now}
 use Rattle.octets.specs.Bytes.{Bytes}
-use Rattle.octets.specs.PartLaws.{part-length}
 use Rattle.definition.specs.Alarm.{before}
 use Rattle.definition.specs.Record.{readAlarm}
+use Rattle.history.specs.HeldLaws.{content-width}
 use Rattle.expiry.proofs.is_due.Statement.{statement}
 use Rattle.expiry.proofs.is_due.Tie as tie
 
 updated-at-requires : tie.Need-updated-at-requires
-updated-at-requires c κs =
-    let s = c .before .before in
-    ap length (c .payload .ensures) ∙ part-length (now (s .args .register)) (1536 * s .args .i + 4) 1532 (omega (arith, s .pre))
+updated-at-requires c κs = content-width _ _ (c .before .before .pre) (c .payload .ensures)
 
 returns : tie.Need-returns
 returns c =

@@ -4,7 +4,6 @@ use Prim.Native.Nat.{_+_, _-_, _*_, _≤_}
 use native.Mathlib.Omega.{arith}
 use borrow.Author.Needs.{needs}
 use lib.ListN.{length}
-use Rattle.history.specs.HeldLaws.{header-room}
 use Rattle.expiry.specs.Sweep.{Sweep}
 use Rattle.expiry.specs.SweepLaws.{sweep-start, meets-fits, meets-free, sweep-end}
 use Rattle.expiry.proofs.sweep.Statement.{statement}
@@ -16,24 +15,24 @@ Inv-loop register₀ last cutoff n at₀ s₀ k₀ register at s k = Sweep cutof
 abbrev μ-loop : tie.MeasureT-loop
 μ-loop register₀ last cutoff n at₀ s₀ k₀ register at s k = n - k
 
-get32-requires : tie.Need-get32-requires Inv-loop μ-loop
-get32-requires c κs = omega (arith, header-room _ (c .before .before .pre .whole))
+held-requires : tie.Need-held-requires Inv-loop μ-loop
+held-requires c κs = (c .before .before .pre .whole, omega arith)
 
-get32-requires-2 : tie.Need-get32-requires-2 Inv-loop μ-loop
-get32-requires-2 c κs = omega (arith, header-room _ (c .before .before .before .before .pre .whole))
+first-requires : tie.Need-first-requires Inv-loop μ-loop
+first-requires c κs = (c .before .before .before .before .pre .whole, omega arith)
 
 loop-holds : tie.Need-loop-holds Inv-loop μ-loop
 loop-holds c =
     let g = c .before .before in
     let s = g .before .before .before in
-    (sweep-start _ _ _ _ _ (s .pre) (g .get32 .ensures) (c .get322 .ensures), refl)
+    (sweep-start _ _ _ _ _ (s .pre) (g .held .ensures) (c .first .ensures), refl)
 
 -- the record that the sweep is at
 at-fits : (c : tie.In-loop Inv-loop μ-loop) → 1536 * c .before .loop .at + 1536 ≤ length (c .before .loop .register)
 at-fits c = meets-fits _ _ _ _ _ _ _ (c .before .loop .inv .0) (c .loop-test .taken)
 
-next-of-requires : tie.Need-next-of-requires Inv-loop μ-loop
-next-of-requires c κs = at-fits (c .before)
+next-requires : tie.Need-next-requires Inv-loop μ-loop
+next-requires c κs = at-fits (c .before)
 
 pass-requires : tie.Need-pass-requires Inv-loop μ-loop
 pass-requires c κs =
@@ -46,7 +45,7 @@ loop-again c =
     let p = c .before .before in
     let g = p .before .before in
     let t = g .before .before in
-    (p .pass .ensures _ _ _ _ (t .before .loop .inv .0) (t .loop-test .taken) (g .next-of .ensures), search needs)
+    (p .pass .ensures _ _ _ _ (t .before .loop .inv .0) (t .loop-test .taken) (g .next .ensures), search needs)
 
 returns : tie.Need-returns Inv-loop μ-loop
 returns c = sweep-end _ _ _ _ _ _ _ (c .before .loop .inv .0) (omega (arith, c .loop-test .left))
@@ -57,10 +56,10 @@ sweep-spec =
     (tie.spec
     Inv-loop
     μ-loop
-    get32-requires
-    get32-requires-2
+    held-requires
+    first-requires
     loop-holds
-    next-of-requires
+    next-requires
     pass-requires
     (λ c. search needs)
     (λ c. search needs)

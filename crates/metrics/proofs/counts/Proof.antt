@@ -2,21 +2,21 @@
 use Prim.Native.Nat.{ℕ}
 use native.Mathlib.Omega.{arith}
 use lib.ListN.{length-replicate}
-use Rattle.metrics.specs.WalkLaws.{active-most}
-use Rattle.metrics.specs.CountsLaws.{no-marks, counts-refused, counts-answered}
 use borrow.Author.Needs.{needs}
+use Rattle.history.specs.WalkLaws.{held-most}
+use Rattle.metrics.specs.CountsLaws.{no-marks, counts-refused, counts-answered}
 use Rattle.metrics.proofs.counts.Statement.{statement}
 use Rattle.metrics.proofs.counts.Tie as tie
 
 mark-repeats-requires : tie.Need-mark-repeats-requires
 mark-repeats-requires c κs =
     let s = c .before .before .before in
-    (s .pre, omega (arith, active-most _ (s .pre), length-replicate {A = ℕ} 65535 0), no-marks 65535)
+    (s .pre, omega (arith, held-most _ (s .pre) 0 (omega arith), length-replicate {A = ℕ} 65535 0), no-marks 65535)
 
 measure-requires : tie.Need-measure-requires
 measure-requires c κs =
     let s = c .before .before .before .before .before .before in
-    (s .pre, omega (arith, active-most _ (s .pre), c .before .marks2 .given))
+    (s .pre, omega (arith, held-most _ (s .pre) 0 (omega arith), c .before .marks2 .given))
 
 returns : tie.Need-returns
 returns c =
@@ -31,7 +31,7 @@ put-entries-requires c κs =
     let m = i .before .before in
     let r = m .before .before .before in
     let s = r .before .before .before .before in
-    (s .pre, omega (arith, active-most _ (s .pre), m .before .before .marks2 .given), omega (arith, i .if1 .left, m .measure .ensures .1))
+    (s .pre, omega (arith, held-most _ (s .pre) 0 (omega arith), m .before .before .marks2 .given), omega (arith, i .if1 .left, m .measure .ensures .1))
 
 returns-2 : tie.Need-returns-2
 returns-2 c =

@@ -1,10 +1,10 @@
 -- `mark`: the places passed are marked.
 use Prim.Native.Nat.{_-_}
 use native.Mathlib.Omega.{arith}
-use Rattle.metrics.specs.Meaning.{ratingAt, marking}
-use Rattle.metrics.specs.WalkLaws.{reached-fits}
-use Rattle.metrics.specs.MarkLaws.{Marked, marked-none, marked-place, marked-all}
 use borrow.Author.Needs.{needs}
+use Rattle.history.specs.WalkLaws.{reached-fits}
+use Rattle.metrics.specs.Meaning.{ratingAt, marking}
+use Rattle.metrics.specs.MarkLaws.{Marked, marked-none, marked-place, marked-all}
 use Rattle.metrics.proofs.mark.Statement.{statement}
 use Rattle.metrics.proofs.mark.Tie as tie
 

@@ -4,11 +4,11 @@ use Prim.Native.Nat.{_+_, _<_}
 use native.Mathlib.Omega.{arith}
 use lib.ListN.{length}
 use denote.Ref.{now}
-use Rattle.definition.specs.Reports.{rating}
-use Rattle.metrics.specs.Meaning.{ratings, settled, fromPlace}
-use Rattle.metrics.specs.WalkLaws.{reached-fits, reached-here, reached-next}
-use Rattle.metrics.specs.MarkLaws.{settled-past, settled-first}
 use borrow.Author.Needs.{needs}
+use Rattle.definition.specs.Reports.{rating}
+use Rattle.history.specs.WalkLaws.{reached-fits, reached-next, field-here}
+use Rattle.metrics.specs.Meaning.{ratings, settled, fromPlace}
+use Rattle.metrics.specs.MarkLaws.{settled-past, settled-first}
 use Rattle.metrics.proofs.mark_behind.Statement.{statement}
 use Rattle.metrics.proofs.mark_behind.Tie as tie
 
@@ -18,7 +18,7 @@ has-mark c = omega (arith, c .pre .0, c .pre .2)
 returns : tie.Need-returns
 returns c =
     let s = c .before .before .before .before in
-    settled-past _ _ _ (reached-here (s .pre .1) (s .pre .2) rating) _ (has-mark s) (c .if1 .taken)
+    settled-past _ _ _ (field-here (s .pre .1) (s .pre .2) rating) _ (has-mark s) (c .if1 .taken)
 
 mark-requires : tie.Need-mark-requires
 mark-requires c κs =
@@ -31,7 +31,7 @@ returns-2 c =
     let i = m .before .before .before in
     let s = i .before .before .before .before in
     ap (fromPlace settled (s .args .k + 1) (ratings (now (s .args .register)))) (m .mark .ensures)
-    ∙ settled-first _ _ _ (reached-here (s .pre .1) (s .pre .2) rating) _ (has-mark s) (i .if1 .left)
+    ∙ settled-first _ _ _ (field-here (s .pre .1) (s .pre .2) rating) _ (has-mark s) (i .if1 .left)
 
 pub mark-behind-spec : {M : Type 1} → statement M
 mark-behind-spec =

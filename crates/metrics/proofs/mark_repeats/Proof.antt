@@ -1,11 +1,11 @@
 -- `mark_repeats`: the marks of the places passed are settled.
 use Prim.Native.Nat.{_-_}
 use native.Mathlib.Omega.{arith}
+use borrow.Author.Needs.{needs}
+use Rattle.history.specs.WalkLaws.{reached-first, reached-fits}
 use Rattle.metrics.specs.Meaning.{settled}
-use Rattle.metrics.specs.WalkLaws.{reached-first, reached-fits}
 use Rattle.metrics.specs.MarkLaws.{Marked, marked-none, settled-place}
 use Rattle.metrics.specs.CountsLaws.{settled-zeros}
-use borrow.Author.Needs.{needs}
 use Rattle.metrics.proofs.mark_repeats.Statement.{statement}
 use Rattle.metrics.proofs.mark_repeats.Tie as tie
 
@@ -19,7 +19,7 @@ loop-holds : tie.Need-loop-holds Inv-loop μ-loop
 loop-holds c =
     let h = c .before in
     let s = h .before .before .before in
-    marked-none _ _ (reached-first _ (s .pre .0) (h .held .ensures) (c .first .ensures)) (omega (arith, h .held .ensures, s .pre .1))
+    marked-none _ _ (reached-first _ (s .pre .0) 0 (omega arith) (h .held .ensures) (c .first .ensures)) (omega (arith, h .held .ensures, s .pre .1))
 
 loop-again : tie.Need-loop-again Inv-loop μ-loop
 loop-again c =

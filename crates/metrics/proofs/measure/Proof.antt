@@ -1,9 +1,9 @@
 -- `measure`: the entries of the places passed, and where they end.
 use Prim.Native.Nat.{_-_}
 use native.Mathlib.Omega.{arith}
-use Rattle.metrics.specs.WalkLaws.{reached-first, reached-fits}
-use Rattle.metrics.specs.ListingLaws.{Measured, measured-none, measured-small, measured-next, measured-all}
 use borrow.Author.Needs.{needs}
+use Rattle.history.specs.WalkLaws.{reached-first, reached-fits, reached-most}
+use Rattle.metrics.specs.ListingLaws.{Measured, measured-none, measured-small, measured-next, measured-all}
 use Rattle.metrics.proofs.measure.Statement.{statement}
 use Rattle.metrics.proofs.measure.Tie as tie
 
@@ -17,19 +17,19 @@ loop-holds : tie.Need-loop-holds Inv-loop μ-loop
 loop-holds c =
     let h = c .before in
     let s = h .before .before .before in
-    measured-none _ (reached-first _ (s .pre .0) (h .held .ensures) (c .first .ensures)) (omega (arith, h .held .ensures, s .pre .1))
+    measured-none _ (reached-first _ (s .pre .0) 0 (omega arith) (h .held .ensures) (c .first .ensures)) (omega (arith, h .held .ensures, s .pre .1))
 
 plus-one-requires : tie.Need-plus-one-requires Inv-loop μ-loop
 plus-one-requires c κs =
     let t = c .before in
     let w = t .before .loop .inv in
-    omega (arith, w .few, w .reached .most, t .loop-test .taken)
+    omega (arith, w .few, reached-most (w .reached), t .loop-test .taken)
 
 add-end : tie.Need-add-end Inv-loop μ-loop
 add-end c =
     let t = c .before .before .before .before in
     let w = t .before .loop .inv in
-    omega (arith, measured-small w (t .loop-test .taken) (c .entry-length .ensures), w .reached .most)
+    omega (arith, measured-small w (t .loop-test .taken) (c .entry-length .ensures), reached-most (w .reached))
 
 loop-again : tie.Need-loop-again Inv-loop μ-loop
 loop-again c =

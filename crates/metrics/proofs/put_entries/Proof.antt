@@ -1,9 +1,10 @@
 -- `put_entries`: the entries of the places passed stand in the answer.
 use Prim.Native.Nat.{_-_}
 use native.Mathlib.Omega.{arith}
-use Rattle.metrics.specs.WalkLaws.{reached-first, reached-fits}
-use Rattle.metrics.specs.ListingLaws.{Written, written-none, written-length, written-fits, written-next, written-all}
 use borrow.Author.Needs.{needs}
+use Rattle.history.specs.WalkLaws.{reached-first, reached-fits}
+use Rattle.answers.specs.EntryLaws.{begun-length}
+use Rattle.metrics.specs.ListingLaws.{Written, written-none, written-fits, written-next, written-all}
 use Rattle.metrics.proofs.put_entries.Statement.{statement}
 use Rattle.metrics.proofs.put_entries.Tie as tie
 
@@ -17,7 +18,7 @@ loop-holds : tie.Need-loop-holds Inv-loop μ-loop
 loop-holds c =
     let h = c .before in
     let s = h .before .before .before .before in
-    written-none _ _ (reached-first _ (s .pre .0) (h .held .ensures) (c .first .ensures)) (omega (arith, h .held .ensures, s .pre .1)) (s .pre .2)
+    written-none _ _ (reached-first _ (s .pre .0) 0 (omega arith) (h .held .ensures) (c .first .ensures)) (omega (arith, h .held .ensures, s .pre .1)) (s .pre .2)
 
 put-entry-requires : tie.Need-put-entry-requires Inv-loop μ-loop
 put-entry-requires c κs =
@@ -47,5 +48,5 @@ put-entries-spec =
     (λ c. search needs)
     (λ c. search needs)
     loop-again
-    (λ c. written-length (c .before .loop .inv))
+    (λ c. begun-length (c .before .loop .inv .begun))
     (λ c. written-all (c .before .loop .inv) (omega (arith, c .loop-test .left))))

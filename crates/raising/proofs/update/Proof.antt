@@ -7,8 +7,7 @@ use Rattle.octets.specs.Bytes.{Bytes}
 use Rattle.definition.specs.Record.{lastActive}
 use Rattle.raise.specs.Meaning.{raiseValue}
 use Rattle.history.specs.Meaning.{IsAlarm}
-use Rattle.history.specs.HeldLaws.{on-fits}
-use Rattle.state.specs.ActLaws.{on-alarm}
+use Rattle.history.specs.HeldLaws.{on-fits, on-alarm}
 use Rattle.raising.specs.RaiseLaws.{updated-payload, updates}
 use Rattle.raising.proofs.update.Statement.{statement}
 use Rattle.raising.proofs.update.Tie as tie
@@ -21,7 +20,7 @@ updated-by-requires : tie.Need-updated-by-requires
 updated-by-requires c κs =
     let l = c .before .before in
     let s = l .before .before .before .before .before .before .before .before in (
-      subst (λ (p : Bytes). IsAlarm lastActive p) (sym (l .load .ensures)) (on-alarm _ _ (s .pre .0 .newest .whole) (s .pre .1)),
+      subst (λ (p : Bytes). IsAlarm lastActive p) (sym (l .load .ensures)) (on-alarm _ (s .pre .0 .newest .whole) _ (s .pre .1)),
       record { text = s .pre .0 .parts .text; details = s .pre .0 .parts .details },
     )
 

@@ -5,9 +5,9 @@ use borrow.Author.Needs.{needs}
 use Rattle.octets.specs.Bytes.{Bytes}
 use Rattle.definition.specs.Record.{lastActive}
 use Rattle.history.specs.Meaning.{IsAlarm}
-use Rattle.history.specs.HeldLaws.{on-fits}
+use Rattle.history.specs.HeldLaws.{on-fits, on-alarm}
 use Rattle.changes.specs.Meaning.{actionOf}
-use Rattle.state.specs.ActLaws.{on-alarm, acted-payload, acts}
+use Rattle.state.specs.ActLaws.{acted-payload, acts}
 use Rattle.state.proofs.act.Statement.{statement}
 use Rattle.state.proofs.act.Tie as tie
 
@@ -19,7 +19,7 @@ acted-on-requires : tie.Need-acted-on-requires
 acted-on-requires c κs =
     let l = c .before .before in
     let s = l .before .before .before .before .before in
-    subst (λ (p : Bytes). IsAlarm lastActive p) (sym (l .load .ensures)) (on-alarm _ _ (s .pre .0 .whole) (s .pre .1))
+    subst (λ (p : Bytes). IsAlarm lastActive p) (sym (l .load .ensures)) (on-alarm _ (s .pre .0 .whole) _ (s .pre .1))
 
 change-requires : tie.Need-change-requires
 change-requires c κs =

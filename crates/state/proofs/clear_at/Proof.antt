@@ -8,8 +8,7 @@ use denote.Ref.{now}
 use Rattle.octets.specs.Bytes.{Bytes}
 use Rattle.definition.specs.Record.{lastActive}
 use Rattle.history.specs.Meaning.{IsAlarm}
-use Rattle.history.specs.HeldLaws.{on-fits}
-use Rattle.state.specs.ActLaws.{on-alarm}
+use Rattle.history.specs.HeldLaws.{on-fits, on-alarm}
 use Rattle.state.specs.ClearLaws.{cleared-payload, cleared-short, clears}
 use Rattle.state.proofs.clear_at.Statement.{statement}
 use Rattle.state.proofs.clear_at.Tie as tie
@@ -22,7 +21,7 @@ cleared-by-requires : tie.Need-cleared-by-requires
 cleared-by-requires c κs =
     let l = c .before .before in
     let s = l .before .before .before .before .before in
-    subst (λ (p : Bytes). IsAlarm lastActive p) (sym (l .load .ensures)) (on-alarm _ _ (s .pre .0 .whole) (s .pre .1 .on))
+    subst (λ (p : Bytes). IsAlarm lastActive p) (sym (l .load .ensures)) (on-alarm _ (s .pre .0 .whole) _ (s .pre .1 .on))
 
 retire-requires : tie.Need-retire-requires
 retire-requires c κs =

@@ -1,23 +1,16 @@
 -- `load`: the payload takes the whole of the buffer.
-use mathlib.Core.Path.{_≡_, sym, ap, _∙_}
-use Prim.Native.Nat.{_+_, _*_}
+use mathlib.Core.Path.{sym, _∙_}
 use native.Mathlib.Omega.{arith}
 use borrow.Author.Needs.{needs}
-use lib.ListN.{length, take, drop}
-use denote.Ref.{now}
-use Rattle.octets.specs.PartLaws.{part-length}
 use Rattle.octets.specs.SpliceLaws.{splice-whole}
+use Rattle.history.specs.HeldLaws.{content-width}
 use Rattle.state.proofs.load.Statement.{statement}
 use Rattle.state.proofs.load.Tie as tie
-
--- a payload's width
-width : (s : tie.Start) → length (take 1532 (drop (1536 * s .args .i + 4) (now (s .args .register)))) ≡ 1532
-width s = part-length (now (s .args .register)) (1536 * s .args .i + 4) 1532 (omega (arith, s .pre .1))
 
 put-bytes-requires : tie.Need-put-bytes-requires
 put-bytes-requires c κs =
     let s = c .before .before .before .before in
-    omega (arith, s .pre .0, ap length (c .payload .ensures), width s)
+    omega (arith, s .pre .0, content-width _ _ (s .pre .1) (c .payload .ensures))
 
 returns : tie.Need-returns
 returns c =
@@ -25,7 +18,7 @@ returns c =
     let p = w .before in
     let s = p .before .before .before .before in
     w .put-bytes .ensures
-    ∙ splice-whole _ _ (ap length (p .payload .ensures) ∙ width s ∙ sym (s .pre .0))
+    ∙ splice-whole _ _ (content-width _ _ (s .pre .1) (p .payload .ensures) ∙ sym (s .pre .0))
     ∙ p .payload .ensures
 
 pub load-spec : {M : Type 1} → statement M
