@@ -1,3 +1,2 @@
-pub mod Acted
 pub mod Stretch
 pub mod BuiltLaws
