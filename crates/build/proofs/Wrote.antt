@@ -31,7 +31,7 @@ wrote {at} {ws} {ps} {b} w h = lays w ∙ laid-join at ws ps b (fits w) h
 
 -- ---- stretches of slots
 
-abbrev pub joinEach : List (List Bytes) → List Bytes
+abbrev joinEach : List (List Bytes) → List Bytes
 joinEach [] = []
 joinEach (ps ∷ pss) = join ps ∷ joinEach pss
 

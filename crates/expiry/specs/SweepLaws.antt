@@ -13,7 +13,7 @@ use Rattle.octets.specs.Put.{Put}
 use Rattle.definition.specs.Chain.{Entry, onContent, entry, those, without}
 use Rattle.definition.specs.ChainLaws.{without-map}
 use Rattle.definition.specs.Alarm.{Alarm, isDue}
-use Rattle.definition.specs.Record.{lastActive, lastState, alarmBytes, readAlarm}
+use Rattle.definition.specs.Record.{lastState, alarmBytes, readAlarm}
 use Rattle.definition.specs.Book.{Record, recordOf, lastOf, times, readBook}
 use Rattle.definition.specs.BookChainLaws.{times-hit, times-miss}
 use Rattle.definition.specs.BookSplitLaws.{prevOf, lastFrom, last-from-zero}
@@ -34,7 +34,7 @@ use Rattle.history.specs.DoesLaws.{does-then, does-give, does-look, does-end}
 use Rattle.history.specs.Walk.{alarmAt}
 use Rattle.history.specs.WalkLaws.{along-start, along-here, along-parts, along-on, along-once, along-fits, along-link, along-next}
 use Rattle.history.specs.CountLaws.{those-hit, those-miss}
-use Rattle.history.specs.HeldLaws.{alarm-payload, payload-legal, on-station, on-alarm}
+use Rattle.history.specs.HeldLaws.{changed-payload, on-station}
 use Rattle.answers.specs.AnswerLaws.{answers-put}
 use Rattle.expiry.specs.Sweep.{dueOf, Swept, Sweep}
 use Rattle.expiry.specs.declared.Stand.{Stand}
@@ -67,12 +67,10 @@ last-behind (d ∷ (f ∷ a)) e = last-behind (f ∷ a) e
 -- ---- an alarm that expires
 
 module _ (b q p : Bytes) (i cutoff : ℕ) (h : T (sound b)) (o : OnActive b i) (t : Time cutoff) (l : q ≡ recordOf b i .content) (e : p ≡ alarmBytes (expiredBy cutoff (readAlarm q))) where
-  pub expired-payload : IsAlarm lastState p × (readAlarm p ≡ expiredBy cutoff (readAlarm (recordOf b i .content)))
-  expired-payload =
-      alarm-payload lastState (expiredBy cutoff (readAlarm (recordOf b i .content))) p (e ∙ ap (λ (r : Bytes). alarmBytes (expiredBy cutoff (readAlarm r))) l)
-      (expired-legal cutoff _ t (payload-legal lastActive (recordOf b i .content) (on-alarm b h i o .legal)))
+  pub expired-payload : IsAlarm lastState p × (readAlarm p ≡ expiredBy cutoff (alarmAt b i))
+  expired-payload = changed-payload b h lastState i (expiredBy cutoff) q p o l e (expired-legal cutoff (alarmAt b i) t)
 
-  pub expires : (b′ : Bytes) (last : ℕ) → Files (retire i (readAlarm p)) b b′ last → Files (retire i (expiredBy cutoff (readAlarm (recordOf b i .content)))) b b′ last
+  pub expires : (b′ : Bytes) (last : ℕ) → Files (retire i (readAlarm p)) b b′ last → Files (retire i (expiredBy cutoff (alarmAt b i))) b b′ last
   expires b′ last f = subst (λ (a : Alarm). Files (retire i a) b b′ last) (expired-payload .1) f
 
 -- ---- a step for each

@@ -3,12 +3,11 @@ ghost use mathlib.Core.Path.{_≡_};
 ghost use Prim.Native.Nat.{_+_, _*_, _≤_, _<_};
 ghost use lib.ListN.{length};
 ghost use Rattle.definition.specs.Alarm.{isDue};
-ghost use Rattle.definition.specs.Record.{readAlarm};
-ghost use Rattle.definition.specs.Book.{recordOf};
 ghost use Rattle.definition.specs.BookLegalLaws.{CanRelease};
 ghost use Rattle.definition.specs.Steps.{retire as retired, expiredBy, expire as expiring};
 ghost use Rattle.definition.specs.ReplyLaws.{Answers};
 ghost use Rattle.history.specs.Meaning.{Newest, Files};
+ghost use Rattle.history.specs.Walk.{alarmAt};
 ghost use Rattle.expiry.specs.Sweep.{Swept, Passes};
 use model::Record;
 use register::ACTIVE;
@@ -16,7 +15,7 @@ use register::ACTIVE;
 // Whether record i's alarm is due.
 fn is_due(register: &[u8], i: u32, cutoff: u64) -> bool
     requires { ⌜ 1536 * i + 1536 ≤ length (now register) ⌝ }
-    ensures { λ r. ⌜ r ≡ isDue cutoff (readAlarm (recordOf (now (register .entry)) i .content)) ⌝ }
+    ensures { λ r. ⌜ r ≡ isDue cutoff (alarmAt (now (register .entry)) i) ⌝ }
 {
     time::is_before(record::updated_at(history::payload(register, i)), cutoff)
 }
@@ -24,7 +23,7 @@ fn is_due(register: &[u8], i: u32, cutoff: u64) -> bool
 // Active record i, which follows `previous`, expires. Gives history's newest record, which was `last`.
 fn expire_at(register: &mut [u8], i: u32, previous: u32, last: u32, cutoff: u64) -> u32
     requires { ⌜ Newest (now register) last × CanRelease (now register) 0 i previous ⌝ }
-    ensures { λ r. ⌜ Files (retired i (expiredBy cutoff (readAlarm (recordOf (now (register .entry)) i .content)))) (now (register .entry)) (now (register .exit)) r ⌝ }
+    ensures { λ r. ⌜ Files (retired i (expiredBy cutoff (alarmAt (now (register .entry)) i))) (now (register .entry)) (now (register .exit)) r ⌝ }
 {
     let mut p = [0u8; Record::PAYLOAD];
     state::load(&mut p, register, i);

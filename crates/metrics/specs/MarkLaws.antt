@@ -61,11 +61,11 @@ mark-here ms k h = drop-cons ms k 0 h ∙ ap (λ (n : ℕ). getD ms k 0 ∷ drop
 
 module _ (l : List Rating) (k : ℕ) where
   -- behind the last place
-  pub marking-end : (p : Rating) (ms : Bytes) → drop k l ≡ [] → fromPlace (marking p) k l ms ≡ ms
+  marking-end : (p : Rating) (ms : Bytes) → drop k l ≡ [] → fromPlace (marking p) k l ms ≡ ms
   unfolding marking
   marking-end p ms e = rw e (take-append-drop k ms)
 
-  pub settled-end : (ms : Bytes) → drop k l ≡ [] → fromPlace settled k l ms ≡ ms
+  settled-end : (ms : Bytes) → drop k l ≡ [] → fromPlace settled k l ms ≡ ms
   unfolding settled
   settled-end ms e = rw e (take-append-drop k ms)
 
@@ -76,7 +76,7 @@ module _ (l : List Rating) (k : ℕ) where
         take (k + 1) ns ≡ take k ms ++ (v ∷ []) → fromPlace f (k + 1) l ns ≡ fromPlace f k l ms
     next f ns v e t = rw (t, append-assoc, ← e, ← mark-here ms k room, ← here)
 
-    pub marking-next :
+    marking-next :
         (p : Rating) (v : ℕ) → v ≡ cond (sameRating q p) 1 (getD ms k 0) → fromPlace (marking p) (k + 1) l (set ms k v) ≡ fromPlace (marking p) k l ms
     unfolding marking
     marking-next p v e =

@@ -5,14 +5,13 @@ use lib.ListN.{length}
 use Rattle.octets.specs.Bytes.{Bytes}
 use Rattle.definition.specs.Value.{RaiseValue}
 use Rattle.definition.specs.Fields.{LegalRaise}
-use Rattle.definition.specs.Record.{readAlarm}
-use Rattle.definition.specs.Book.{recordOf}
 use Rattle.definition.specs.Station.{Step}
 use Rattle.definition.specs.Answer.{Answer, Updated}
 use Rattle.definition.specs.Steps.{change, updatedBy, raiseAt}
 use Rattle.raise.specs.declared.Raise.{Raise}
 use Rattle.raise.specs.Meaning.{raiseValue, RaiseWithin}
 use Rattle.history.specs.Meaning.{Newest}
+use Rattle.history.specs.Walk.{alarmAt}
 
 -- a sound register with history's newest record, a raise that the call holds, and room for an alarm in the answer
 pub record Ready (b : Bytes) (last : ℕ) (call : Bytes) (r : Raise) (a : Bytes) : Type 0 where
@@ -23,7 +22,7 @@ pub record Ready (b : Bytes) (last : ℕ) (call : Bytes) (r : Raise) (a : Bytes)
 
 -- "Raise, key active": record i of b
 abbrev pub updatesAt : Bytes → ℕ → RaiseValue → Step Answer
-updatesAt b i c = change Updated i (updatedBy c (readAlarm (recordOf b i .content)))
+updatesAt b i c = change Updated i (updatedBy c (alarmAt b i))
 
 -- "Otherwise"
 abbrev pub raisesNew : RaiseValue → Bytes → Step Answer

@@ -25,8 +25,9 @@ use Rattle.definition.specs.Sound.{station, sound}
 use Rattle.definition.specs.MoveLaws.{Does}
 use Rattle.definition.specs.ReplyLaws.{Answers, Refuses}
 use Rattle.history.specs.Meaning.{IsAlarm, OnActive, Changes}
+use Rattle.history.specs.Walk.{alarmAt}
 use Rattle.history.specs.DoesLaws.{does-then, does-look, does-yes, does-no}
-use Rattle.history.specs.HeldLaws.{Held, alarm-payload, payload-legal, on-alarm}
+use Rattle.history.specs.HeldLaws.{Held, alarm-payload, payload-as, changed-payload}
 use Rattle.answers.specs.AnswerLaws.{alarm-as, answers-put}
 use Rattle.changes.specs.Meaning.{updatedWith, newsIn, updated-with}
 use Rattle.reply.specs.declared.Reply.{Reply}
@@ -39,18 +40,14 @@ use Rattle.raising.specs.Meaning.{updatesAt, raisesNew}
 
 module _ (c : RaiseValue) (b q p : Bytes) (i : ℕ) (h : T (sound b)) (o : OnActive b i) (l : LegalRaise c) (k : q ≡ recordOf b i .content) (e : p ≡ alarmBytes (updatedWith (newsIn c) (readAlarm q))) where
   abbrev alarm : Alarm
-  alarm = updatedBy c (readAlarm (recordOf b i .content))
-
-  bytes : p ≡ alarmBytes alarm
-  bytes = e ∙ ap (λ (r : Bytes). alarmBytes (updatedWith (newsIn c) (readAlarm r))) k ∙ ap alarmBytes (updated-with c (readAlarm (recordOf b i .content)))
+  alarm = updatedBy c (alarmAt b i)
 
   pub updated-payload : IsAlarm lastActive p × (readAlarm p ≡ alarm)
-  updated-payload =
-      alarm-payload lastActive alarm p bytes (updated-legal c (readAlarm (recordOf b i .content)) l (payload-legal lastActive (recordOf b i .content) (on-alarm b h i o .legal)))
+  updated-payload = changed-payload b h lastActive i (updatedBy c) q p o k (e ∙ ap alarmBytes (updated-with c (readAlarm q))) (updated-legal c (alarmAt b i) l)
 
   pub updates : (b′ a a′ : Bytes) (n : ℕ) → Changes i (readAlarm p) b b′ → Put a 0 (headBytes (head 2 1 0) ++ (be32 0 ++ p)) n a′ → Answers (updatesAt b i c) b b′ a a′ n
   updates b′ a a′ n f w =
-      answers-put (subst (λ (y : Alarm). Does (change Updated i y) b b′ (Updated y)) (updated-payload .1) (f Updated)) (put-as (alarm-as (Updated alarm) alarm refl refl (sym bytes)) w)
+      answers-put (subst (λ (y : Alarm). Does (change Updated i y) b b′ (Updated y)) (updated-payload .1) (f Updated)) (put-as (alarm-as (Updated alarm) alarm refl refl (payload-as lastActive p (updated-payload .0 .legal) (updated-payload .1))) w)
 
 -- ---- a new one is stored
 

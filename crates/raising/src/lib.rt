@@ -19,6 +19,7 @@ use changes::News;
 use model::Record;
 use model::Span;
 use raise::Raise;
+use register::ACTIVE;
 use register::Found;
 use reply::Reply;
 
@@ -113,7 +114,7 @@ fn raise_new(
         (now (answer .exit)) ⌝ }
 {
     let limit = octets::get32(register, 0);
-    if limit <= octets::get32(register, 16) {
+    if limit <= history::held(register, ACTIVE) {
         return Reply::Answered(answers::put_limit(answer, key, limit as u64));
     }
     insert(register, end, last, call, r, key, answer)

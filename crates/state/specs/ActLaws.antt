@@ -23,8 +23,9 @@ use Rattle.definition.specs.Sound.{station, sound}
 use Rattle.definition.specs.MoveLaws.{Does}
 use Rattle.definition.specs.ReplyLaws.{Answers}
 use Rattle.history.specs.Meaning.{IsAlarm, OnActive, Changes}
+use Rattle.history.specs.Walk.{alarmAt}
 use Rattle.history.specs.DoesLaws.{does-then, does-give, does-look, does-yes, does-no}
-use Rattle.history.specs.HeldLaws.{Held, alarm-payload, payload-legal, on-alarm}
+use Rattle.history.specs.HeldLaws.{Held, payload-as, changed-payload}
 use Rattle.answers.specs.AnswerLaws.{alarm-as, answer-as, answers-put}
 use Rattle.state.specs.Meaning.{plainOf, actionCode}
 
@@ -44,21 +45,18 @@ action-body suppressing a = refl
 
 module _ (b q p : Bytes) (i : ℕ) (x : Action) (time : ℕ) (h : T (sound b)) (o : OnActive b i) (t : Time time) (l : q ≡ recordOf b i .content) (e : p ≡ alarmBytes (actedOn x time (readAlarm q))) where
   abbrev alarm : Alarm
-  alarm = actedOn x time (readAlarm (recordOf b i .content))
-
-  bytes : p ≡ alarmBytes alarm
-  bytes = e ∙ ap (λ (r : Bytes). alarmBytes (actedOn x time (readAlarm r))) l
+  alarm = actedOn x time (alarmAt b i)
 
   pub acted-payload : IsAlarm lastActive p × (readAlarm p ≡ alarm)
-  acted-payload = alarm-payload lastActive alarm p bytes (acted-legal x time (readAlarm (recordOf b i .content)) t (payload-legal lastActive (recordOf b i .content) (on-alarm b h i o .legal)))
+  acted-payload = changed-payload b h lastActive i (actedOn x time) q p o l e (acted-legal x time (alarmAt b i) t)
 
   pub acts :
       (b′ a a′ : Bytes) (n c : ℕ) → Changes i (readAlarm p) b b′ → c ≡ actionCode x → Put a 0 (headBytes (head c 1 0) ++ (be32 0 ++ p)) n a′ →
-      Answers (act x time (entry i (readAlarm (recordOf b i .content)))) b b′ a a′ n
+      Answers (act x time (entry i (alarmAt b i))) b b′ a a′ n
   unfolding act
   acts b′ a a′ n c f k w =
       answers-put (subst (λ (y : Alarm). Does (change (actionAnswer x) i y) b b′ (actionAnswer x y)) (acted-payload .1) (f (actionAnswer x)))
-      (put-as (alarm-as (actionAnswer x alarm) alarm (action-head x alarm ∙ ap (λ (m : ℕ). head m 1 0) (sym k)) (action-body x alarm) (sym bytes)) w)
+      (put-as (alarm-as (actionAnswer x alarm) alarm (action-head x alarm ∙ ap (λ (m : ℕ). head m 1 0) (sym k)) (action-body x alarm) (payload-as lastActive p (acted-payload .0 .legal) (acted-payload .1))) w)
 
 -- ---- "unauthorised first, then NotFound"
 
@@ -68,7 +66,7 @@ module _ (x : Action) (time : ℕ) (id : Bytes) (b b′ a a′ : Bytes) (n : ℕ
   unauthorised f z e w = answers-put (rw e (does-yes (eqb f 0) _ _ (eq-eqb f 0 z) (does-give b (Unauthorized (notAuthorized x)) h))) w
 
   module _ (f : ℕ) (yes-flag : 1 ≤ f) where
-    pub on-found : (i p : ℕ) → Held (hasId id) b i p → Answers (act x time (entry i (readAlarm (recordOf b i .content)))) b b′ a a′ n → Answers (plain x (plainOf time id f)) b b′ a a′ n
+    pub on-found : (i p : ℕ) → Held (hasId id) b i p → Answers (act x time (entry i (alarmAt b i))) b b′ a a′ n → Answers (plain x (plainOf time id f)) b b′ a a′ n
     unfolding plain plainAt
     on-found i p held w = record {
       value = w .value;

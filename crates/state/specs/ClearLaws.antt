@@ -15,7 +15,7 @@ use Rattle.definition.specs.Alarm.{Alarm, hasKey}
 use Rattle.definition.specs.Record.{lastActive, lastState, alarmBytes, readAlarm}
 use Rattle.definition.specs.Book.{recordOf}
 use Rattle.definition.specs.Limits.{shortLimit}
-use Rattle.definition.specs.Fields.{Time, LegalAlarm}
+use Rattle.definition.specs.Fields.{Time}
 use Rattle.definition.specs.ChangeLaws.{cleared-legal}
 use Rattle.definition.specs.Steps.{clearedBy, clearAt, clear, retire}
 use Rattle.definition.specs.Answer.{Cleared, ClearWithoutActive, head, headBytes, answerBytes}
@@ -23,29 +23,26 @@ use Rattle.definition.specs.Sound.{station, sound}
 use Rattle.definition.specs.MoveLaws.{Does}
 use Rattle.definition.specs.ReplyLaws.{Answers}
 use Rattle.history.specs.Meaning.{IsAlarm, OnActive, Files}
+use Rattle.history.specs.Walk.{alarmAt}
 use Rattle.history.specs.DoesLaws.{does-then, does-give, does-look}
-use Rattle.history.specs.HeldLaws.{Held, alarm-payload, payload-legal, on-alarm}
+use Rattle.history.specs.HeldLaws.{Held, payload-legal, on-alarm, changed-payload}
 use Rattle.answers.specs.AnswerLaws.{answer-as, answers-put}
 use Rattle.state.specs.Meaning.{clearOf, clearedAt}
 
 module _ (b q p : Bytes) (i time : ℕ) (h : T (sound b)) (o : OnActive b i) (t : Time time) (l : q ≡ recordOf b i .content) (e : p ≡ alarmBytes (clearedBy time (readAlarm q))) where
   abbrev was : Alarm
-  was = readAlarm (recordOf b i .content)
-
-  was-legal : LegalAlarm lastActive was
-  was-legal = payload-legal lastActive (recordOf b i .content) (on-alarm b h i o .legal)
+  was = alarmAt b i
 
   pub cleared-payload : IsAlarm lastState p × (readAlarm p ≡ clearedBy time was)
-  cleared-payload =
-      alarm-payload lastState (clearedBy time was) p (e ∙ ap (λ (r : Bytes). alarmBytes (clearedBy time (readAlarm r))) l) (cleared-legal time was t was-legal)
+  cleared-payload = changed-payload b h lastState i (clearedBy time) q p o l e (cleared-legal time was t)
 
   -- the id stays
-  pub cleared-id : readAlarm p .id ≡ was .id
+  cleared-id : readAlarm p .id ≡ was .id
   unfolding clearedBy
   cleared-id = ap (λ (a : Alarm). a .id) (cleared-payload .1)
 
   pub cleared-short : length (readAlarm p .id) ≤ shortLimit
-  cleared-short = subst (λ (s : Bytes). length s ≤ shortLimit) (sym cleared-id) (was-legal .id .0)
+  cleared-short = subst (λ (s : Bytes). length s ≤ shortLimit) (sym cleared-id) (payload-legal lastActive (recordOf b i .content) (on-alarm b h i o .legal) .id .0)
 
   pub clears : (b′ a a′ id : Bytes) (n last : ℕ) → Files (retire i (readAlarm p)) b b′ last → id ≡ readAlarm p .id → Put a 0 (headBytes (head 3 0 0) ++ string id) n a′ → Answers (clearedAt time (entry i was)) b b′ a a′ n
   clears b′ a a′ id n last f k w =
@@ -55,7 +52,7 @@ module _ (b q p : Bytes) (i time : ℕ) (h : T (sound b)) (o : OnActive b i) (t 
 
 module _ (time : ℕ) (type : Bytes) (about : KeyValue) (k : Bytes) (e : k ≡ keyOf type about) (b : Bytes) (h : T (sound b)) (a a′ : Bytes) (n : ℕ) where
   pub clear-found :
-      (b′ : Bytes) (i p : ℕ) → Held (hasKey k) b i p → Answers (clearedAt time (entry i (readAlarm (recordOf b i .content)))) b b′ a a′ n → Answers (clear (clearOf time type about)) b b′ a a′ n
+      (b′ : Bytes) (i p : ℕ) → Held (hasKey k) b i p → Answers (clearedAt time (entry i (alarmAt b i))) b b′ a a′ n → Answers (clear (clearOf time type about)) b b′ a a′ n
   unfolding clear clearAt
   clear-found b′ i p held w =
       let f = subst (λ (z : Bytes). Held (hasKey z) b i p) e held in

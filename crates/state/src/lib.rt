@@ -1,18 +1,21 @@
 // The manager's steps on one active alarm: acknowledge and suppress without a policy, and clear.
 ghost use mathlib.Core.Path.{_≡_};
-ghost use Prim.Native.Nat.{_+_, _*_, _≤_};
+ghost use Prim.Native.Nat.{_+_, _≤_};
+ghost use lib.Dec.{T};
 ghost use lib.ListN.{length};
 ghost use Rattle.definition.specs.Limits.{shortLimit};
 ghost use Rattle.definition.specs.Chain.{entry};
-ghost use Rattle.definition.specs.Record.{readAlarm};
+ghost use Rattle.definition.specs.Record.{lastActive};
 ghost use Rattle.definition.specs.Book.{payloadWidth, recordOf};
 ghost use Rattle.definition.specs.BookLegalLaws.{CanRelease};
 ghost use Rattle.definition.specs.Steps as S;
 ghost use Rattle.definition.specs.Answer.{Unauthorized, answerBytes};
+ghost use Rattle.definition.specs.Sound.{sound};
 ghost use Rattle.definition.specs.ReplyLaws.{Answers};
 ghost use Rattle.octets.specs.Put.{Put};
 ghost use Rattle.model.specs.Meaning.{part, keyValue, within, KeyWithin};
-ghost use Rattle.history.specs.Meaning.{Newest, OnActive};
+ghost use Rattle.history.specs.Meaning.{IsAlarm, Newest, OnActive};
+ghost use Rattle.history.specs.Walk.{alarmAt};
 ghost use Rattle.changes.specs.Meaning.{actionOf};
 ghost use Rattle.state.specs.Meaning.{plainOf, Authorised, clearOf, actionCode, clearedAt};
 use changes::Action;
@@ -21,10 +24,10 @@ use model::Record;
 use model::Span;
 use register::Found;
 
-// Record i's payload, copied.
+// Active record i's payload, copied.
 pub fn load(p: &mut [u8], register: &[u8], i: u32)
-    requires { ⌜ (length (now p) ≡ payloadWidth) × (1536 * i + 1536 ≤ length (now register)) ⌝ }
-    ensures { λ _. ⌜ now (p .exit) ≡ recordOf (now (register .entry)) i .content ⌝ }
+    requires { ⌜ (length (now p) ≡ payloadWidth) × T (sound (now register)) × OnActive (now register) i ⌝ }
+    ensures { λ _. ⌜ (now (p .exit) ≡ recordOf (now (register .entry)) i .content) × IsAlarm lastActive (now (p .exit)) ⌝ }
 {
     octets::put_bytes(p, 0, history::payload(register, i));
 }
@@ -52,7 +55,7 @@ pub fn act(
     requires { ⌜ Newest (now register) last × OnActive (now register) i × (1552 ≤ length (now answer)) ⌝ }
     ensures { λ r.
         ⌜ Answers
-        (S.act (actionOf action) time (entry i (readAlarm (recordOf (now (register .entry)) i .content))))
+        (S.act (actionOf action) time (entry i (alarmAt (now (register .entry)) i)))
         (now (register .entry))
         (now (register .exit))
         (now (answer .entry))
@@ -145,7 +148,7 @@ fn clear_at(
     requires { ⌜ Newest (now register) last × CanRelease (now register) 0 i previous × (1552 ≤ length (now answer)) ⌝ }
     ensures { λ r.
         ⌜ Answers
-        (clearedAt time (entry i (readAlarm (recordOf (now (register .entry)) i .content))))
+        (clearedAt time (entry i (alarmAt (now (register .entry)) i)))
         (now (register .entry))
         (now (register .exit))
         (now (answer .entry))

@@ -1,31 +1,22 @@
 -- `expire_at`: the payload is taken out, changed and goes into history.
-use mathlib.Core.Path.{sym, subst}
-use native.Mathlib.Omega.{arith}
 use borrow.Author.Needs.{needs}
-use Rattle.octets.specs.Bytes.{Bytes}
-use Rattle.definition.specs.Record.{lastActive}
-use Rattle.history.specs.Meaning.{IsAlarm}
-use Rattle.history.specs.HeldLaws.{on-fits, on-alarm}
 use Rattle.expiry.specs.SweepLaws.{expired-payload, expires}
 use Rattle.expiry.proofs.expire_at.Statement.{statement}
 use Rattle.expiry.proofs.expire_at.Tie as tie
 
 load-requires : tie.Need-load-requires
 load-requires c κs =
-    let s = c .before .before .before in (search needs, on-fits _ (s .pre .0 .whole) 0 _ (omega arith) (s .pre .1 .on))
+    let s = c .before .before .before in (search needs, s .pre .0 .whole, s .pre .1 .on)
 
 expired-by-requires : tie.Need-expired-by-requires
-expired-by-requires c κs =
-    let l = c .before .before in
-    let s = l .before .before .before .before in
-    subst (λ (p : Bytes). IsAlarm lastActive p) (sym (l .load .ensures)) (on-alarm _ (s .pre .0 .whole) _ (s .pre .1 .on))
+expired-by-requires c κs = c .before .before .load .ensures .1
 
 retire-requires : tie.Need-retire-requires
 retire-requires c κs =
     let x = c .before .before .before in
     let l = x .before .before .before in
     let s = l .before .before .before .before in
-    (s .pre .0, s .pre .1, expired-payload _ _ _ _ _ (s .pre .0 .whole) (s .pre .1 .on) (search needs) (l .load .ensures) (x .expired-by .ensures) .0)
+    (s .pre .0, s .pre .1, expired-payload _ _ _ _ _ (s .pre .0 .whole) (s .pre .1 .on) (search needs) (l .load .ensures .0) (x .expired-by .ensures) .0)
 
 returns : tie.Need-returns
 returns c =
@@ -33,7 +24,7 @@ returns c =
     let x = r .before .before .before .before in
     let l = x .before .before .before in
     let s = l .before .before .before .before in
-    expires _ _ _ _ _ (s .pre .0 .whole) (s .pre .1 .on) (search needs) (l .load .ensures) (x .expired-by .ensures) _ _ (r .retire .ensures)
+    expires _ _ _ _ _ (s .pre .0 .whole) (s .pre .1 .on) (search needs) (l .load .ensures .0) (x .expired-by .ensures) _ _ (r .retire .ensures)
 
 pub expire-at-spec : {M : Type 1} → statement M
 expire-at-spec =

@@ -1,26 +1,20 @@
 -- `update`: the payload is taken out, changed by the raise and put back.
-use mathlib.Core.Path.{sym, subst}
-use native.Mathlib.Omega.{arith}
 use borrow.Author.Needs.{needs}
 use denote.Ref.{now}
-use Rattle.octets.specs.Bytes.{Bytes}
-use Rattle.definition.specs.Record.{lastActive}
 use Rattle.raise.specs.Meaning.{raiseValue}
-use Rattle.history.specs.Meaning.{IsAlarm}
-use Rattle.history.specs.HeldLaws.{on-fits, on-alarm}
 use Rattle.raising.specs.RaiseLaws.{updated-payload, updates}
 use Rattle.raising.proofs.update.Statement.{statement}
 use Rattle.raising.proofs.update.Tie as tie
 
 load-requires : tie.Need-load-requires
 load-requires c κs =
-    let s = c .before .before .before .before .before .before .before in (search needs, on-fits _ (s .pre .0 .newest .whole) 0 _ (omega arith) (s .pre .1))
+    let s = c .before .before .before .before .before .before .before in (search needs, s .pre .0 .newest .whole, s .pre .1)
 
 updated-by-requires : tie.Need-updated-by-requires
 updated-by-requires c κs =
     let l = c .before .before in
     let s = l .before .before .before .before .before .before .before .before in (
-      subst (λ (p : Bytes). IsAlarm lastActive p) (sym (l .load .ensures)) (on-alarm _ (s .pre .0 .newest .whole) _ (s .pre .1)),
+      l .load .ensures .1,
       record { text = s .pre .0 .parts .text; details = s .pre .0 .parts .details },
     )
 
@@ -31,7 +25,7 @@ change-requires c κs =
     let s = l .before .before .before .before .before .before .before .before in (
       s .pre .0 .newest,
       s .pre .1,
-      updated-payload (raiseValue (now (s .args .call)) (s .args .r)) _ _ _ _ (s .pre .0 .newest .whole) (s .pre .1) (s .pre .0 .legal) (l .load .ensures) (x .updated-by .ensures) .0,
+      updated-payload (raiseValue (now (s .args .call)) (s .args .r)) _ _ _ _ (s .pre .0 .newest .whole) (s .pre .1) (s .pre .0 .legal) (l .load .ensures .0) (x .updated-by .ensures) .0,
     )
 
 returns : tie.Need-returns
@@ -41,7 +35,7 @@ returns c =
     let x = h .before .before .before .before in
     let l = x .before .before .before in
     let s = l .before .before .before .before .before .before .before .before in
-    updates (raiseValue (now (s .args .call)) (s .args .r)) _ _ _ _ (s .pre .0 .newest .whole) (s .pre .1) (s .pre .0 .legal) (l .load .ensures) (x .updated-by .ensures)
+    updates (raiseValue (now (s .args .call)) (s .args .r)) _ _ _ _ (s .pre .0 .newest .whole) (s .pre .1) (s .pre .0 .legal) (l .load .ensures .0) (x .updated-by .ensures)
     _ _ _ _ (h .change .ensures) (a .put-alarm .ensures)
 
 pub update-spec : {M : Type 1} → statement M

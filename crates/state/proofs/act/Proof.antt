@@ -1,11 +1,5 @@
 -- `act`: the payload is taken out, changed and put back; the answer is the alarm.
-use mathlib.Core.Path.{sym, subst}
-use native.Mathlib.Omega.{arith}
 use borrow.Author.Needs.{needs}
-use Rattle.octets.specs.Bytes.{Bytes}
-use Rattle.definition.specs.Record.{lastActive}
-use Rattle.history.specs.Meaning.{IsAlarm}
-use Rattle.history.specs.HeldLaws.{on-fits, on-alarm}
 use Rattle.changes.specs.Meaning.{actionOf}
 use Rattle.state.specs.ActLaws.{acted-payload, acts}
 use Rattle.state.proofs.act.Statement.{statement}
@@ -13,20 +7,17 @@ use Rattle.state.proofs.act.Tie as tie
 
 load-requires : tie.Need-load-requires
 load-requires c κs =
-    let s = c .before .before .before .before in (search needs, on-fits _ (s .pre .0 .whole) 0 _ (omega arith) (s .pre .1))
+    let s = c .before .before .before .before in (search needs, s .pre .0 .whole, s .pre .1)
 
 acted-on-requires : tie.Need-acted-on-requires
-acted-on-requires c κs =
-    let l = c .before .before in
-    let s = l .before .before .before .before .before in
-    subst (λ (p : Bytes). IsAlarm lastActive p) (sym (l .load .ensures)) (on-alarm _ (s .pre .0 .whole) _ (s .pre .1))
+acted-on-requires c κs = c .before .before .load .ensures .1
 
 change-requires : tie.Need-change-requires
 change-requires c κs =
     let x = c .before .before .before in
     let l = x .before .before .before in
     let s = l .before .before .before .before .before in
-    (s .pre .0, s .pre .1, acted-payload _ _ _ _ (actionOf (s .args .action)) _ (s .pre .0 .whole) (s .pre .1) (search needs) (l .load .ensures) (x .acted-on .ensures) .0)
+    (s .pre .0, s .pre .1, acted-payload _ _ _ _ (actionOf (s .args .action)) _ (s .pre .0 .whole) (s .pre .1) (search needs) (l .load .ensures .0) (x .acted-on .ensures) .0)
 
 returns : tie.Need-returns
 returns c =
@@ -36,7 +27,7 @@ returns c =
     let x = h .before .before .before .before in
     let l = x .before .before .before in
     let s = l .before .before .before .before .before in
-    acts _ _ _ _ (actionOf (s .args .action)) _ (s .pre .0 .whole) (s .pre .1) (search needs) (l .load .ensures) (x .acted-on .ensures)
+    acts _ _ _ _ (actionOf (s .args .action)) _ (s .pre .0 .whole) (s .pre .1) (search needs) (l .load .ensures .0) (x .acted-on .ensures)
     _ _ _ _ _ (h .change .ensures) (k .code-of .ensures) (a .put-alarm .ensures)
 
 pub act-spec : {M : Type 1} → statement M

@@ -1,34 +1,26 @@
 -- `clear_at`: the payload is taken out, changed and goes into history; the answer is the id.
-use mathlib.Core.Path.{sym, subst}
 use Prim.Native.Nat.{_≤_}
 use native.Mathlib.Omega.{arith}
 use borrow.Author.Needs.{needs}
 use lib.ListN.{length}
 use denote.Ref.{now}
-use Rattle.octets.specs.Bytes.{Bytes}
-use Rattle.definition.specs.Record.{lastActive}
-use Rattle.history.specs.Meaning.{IsAlarm}
-use Rattle.history.specs.HeldLaws.{on-fits, on-alarm}
 use Rattle.state.specs.ClearLaws.{cleared-payload, cleared-short, clears}
 use Rattle.state.proofs.clear_at.Statement.{statement}
 use Rattle.state.proofs.clear_at.Tie as tie
 
 load-requires : tie.Need-load-requires
 load-requires c κs =
-    let s = c .before .before .before .before in (search needs, on-fits _ (s .pre .0 .whole) 0 _ (omega arith) (s .pre .1 .on))
+    let s = c .before .before .before .before in (search needs, s .pre .0 .whole, s .pre .1 .on)
 
 cleared-by-requires : tie.Need-cleared-by-requires
-cleared-by-requires c κs =
-    let l = c .before .before in
-    let s = l .before .before .before .before .before in
-    subst (λ (p : Bytes). IsAlarm lastActive p) (sym (l .load .ensures)) (on-alarm _ (s .pre .0 .whole) _ (s .pre .1 .on))
+cleared-by-requires c κs = c .before .before .load .ensures .1
 
 retire-requires : tie.Need-retire-requires
 retire-requires c κs =
     let x = c .before .before .before in
     let l = x .before .before .before in
     let s = l .before .before .before .before .before in
-    (s .pre .0, s .pre .1, cleared-payload _ _ _ _ _ (s .pre .0 .whole) (s .pre .1 .on) (search needs) (l .load .ensures) (x .cleared-by .ensures) .0)
+    (s .pre .0, s .pre .1, cleared-payload _ _ _ _ _ (s .pre .0 .whole) (s .pre .1 .on) (search needs) (l .load .ensures .0) (x .cleared-by .ensures) .0)
 
 put-text-requires : tie.Need-put-text-requires
 put-text-requires c κs =
@@ -36,7 +28,7 @@ put-text-requires c κs =
     let l = x .before .before .before in
     let s = l .before .before .before .before .before in
     let k : length (now (c .id .result)) ≤ 64 =
-    rw (c .id .ensures) (cleared-short _ _ _ _ _ (s .pre .0 .whole) (s .pre .1 .on) (search needs) (l .load .ensures) (x .cleared-by .ensures)) in (omega (arith, k, s .pre .2), omega (arith, k))
+    rw (c .id .ensures) (cleared-short _ _ _ _ _ (s .pre .0 .whole) (s .pre .1 .on) (search needs) (l .load .ensures .0) (x .cleared-by .ensures)) in (omega (arith, k, s .pre .2), omega (arith, k))
 
 returns : tie.Need-returns
 returns c =
@@ -46,7 +38,7 @@ returns c =
     let x = r .before .before .before .before in
     let l = x .before .before .before in
     let s = l .before .before .before .before .before in
-    clears _ _ _ _ _ (s .pre .0 .whole) (s .pre .1 .on) (search needs) (l .load .ensures) (x .cleared-by .ensures) _ _ _ _ _ _ (r .retire .ensures) (k .id .ensures) (a .put-text .ensures)
+    clears _ _ _ _ _ (s .pre .0 .whole) (s .pre .1 .on) (search needs) (l .load .ensures .0) (x .cleared-by .ensures) _ _ _ _ _ _ (r .retire .ensures) (k .id .ensures) (a .put-text .ensures)
 
 pub clear-at-spec : {M : Type 1} → statement M
 clear-at-spec =
