@@ -6,8 +6,12 @@ ghost use Rattle.definition.specs.Limits.{recordWidth};
 ghost use Rattle.definition.specs.Book.{payloadWidth};
 ghost use Rattle.definition.specs.BookLegalLaws.{Limit};
 ghost use Rattle.definition.specs.BookJudgeLaws.{Decides, Counts, Apart};
+ghost use Rattle.record_check.specs.Ruler.{rulerBytes};
 ghost use Rattle.register_check.specs.Meaning.{Chain, Gives, Headed, Heads, Walks, holds, number};
 use model::Record;
+
+// The length of the ruler by which the rooms of strings are tested (record_check): twice the widest room.
+const RULER: usize = 1024;
 
 // Index of each chain's last record, 0 for none.
 pub struct Lasts {
@@ -43,21 +47,21 @@ enum Walked {
 // ---- one chain
 
 // Whether a payload is one of its chain.
-fn payload_ok(kind: Kind, p: &[u8]) -> bool
-    requires { ⌜ length (now p) ≡ payloadWidth ⌝ }
+fn payload_ok(kind: Kind, p: &[u8], ruler: &[u8]) -> bool
+    requires { ⌜ (length (now p) ≡ payloadWidth) × (now ruler ≡ rulerBytes) ⌝ }
     ensures { λ r. ⌜ r ≡ holds kind (now (p .entry)) ⌝ }
 {
     match kind {
-        Kind::Active => record_check::alarm_ok(p, 3),
-        Kind::History => record_check::alarm_ok(p, 5),
-        Kind::Audit => record_check::event_ok(p),
+        Kind::Active => record_check::alarm_ok(p, 3, ruler),
+        Kind::History => record_check::alarm_ok(p, 5, ruler),
+        Kind::Audit => record_check::event_ok(p, ruler),
         Kind::Free => octets::is_blank(p),
     }
 }
 
 // The way by links from `head` on: as many records as `count` says, each of 1 to `capacity` with a payload of its chain, and then 0.
-fn walk(register: &[u8], capacity: u32, kind: Kind, head: u32, count: u32) -> Walked
-    requires { ⌜ length (now register) ≡ recordWidth * (capacity + 1) ⌝ }
+fn walk(register: &[u8], capacity: u32, kind: Kind, head: u32, count: u32, ruler: &[u8]) -> Walked
+    requires { ⌜ (length (now register) ≡ recordWidth * (capacity + 1)) × (now ruler ≡ rulerBytes) ⌝ }
     ensures { λ r. ⌜ Walks r kind (now (register .entry)) capacity count head ⌝ }
 {
     let mut at = head;
@@ -73,7 +77,7 @@ fn walk(register: &[u8], capacity: u32, kind: Kind, head: u32, count: u32) -> Wa
         let link = Record::WIDTH * (at as usize);
         let a = link + 4;
         let e = link + Record::WIDTH;
-        if !payload_ok(kind, &register[a..e]) {
+        if !payload_ok(kind, &register[a..e], ruler) {
             return Walked::Broken;
         }
         last = at;
@@ -98,14 +102,14 @@ fn head_at(kind: Kind) -> usize
     }
 }
 
-fn chain(register: &[u8], capacity: u32, kind: Kind) -> Walked
-    requires { ⌜ length (now register) ≡ recordWidth * (capacity + 1) ⌝ }
+fn chain(register: &[u8], capacity: u32, kind: Kind, ruler: &[u8]) -> Walked
+    requires { ⌜ (length (now register) ≡ recordWidth * (capacity + 1)) × (now ruler ≡ rulerBytes) ⌝ }
     ensures { λ r. ⌜ Chain r kind (now (register .entry)) capacity ⌝ }
 {
     let at = head_at(kind);
     let head = octets::get32(register, at);
     let count = octets::get32(register, at + 4);
-    walk(register, capacity, kind, head, count)
+    walk(register, capacity, kind, head, count, ruler)
 }
 
 // ---- the header
@@ -207,23 +211,23 @@ fn apart(p: u32, q: u32, r: u32, t: u32) -> bool
 }
 
 // The four chains of a register whose header is as it should be.
-fn chains(register: &[u8], capacity: u32) -> Checked
-    requires { ⌜ Headed (now register) capacity ⌝ }
+fn chains(register: &[u8], capacity: u32, ruler: &[u8]) -> Checked
+    requires { ⌜ Headed (now register) capacity × (now ruler ≡ rulerBytes) ⌝ }
     ensures { λ r. ⌜ Gives r (now (register .entry)) ⌝ }
 {
-    let active = chain(register, capacity, Kind::Active);
+    let active = chain(register, capacity, Kind::Active, ruler);
     let Walked::End(a) = active else {
         return Checked::Unsound;
     };
-    let history = chain(register, capacity, Kind::History);
+    let history = chain(register, capacity, Kind::History, ruler);
     let Walked::End(h) = history else {
         return Checked::Unsound;
     };
-    let audit = chain(register, capacity, Kind::Audit);
+    let audit = chain(register, capacity, Kind::Audit, ruler);
     let Walked::End(e) = audit else {
         return Checked::Unsound;
     };
-    let free = chain(register, capacity, Kind::Free);
+    let free = chain(register, capacity, Kind::Free, ruler);
     let Walked::End(f) = free else {
         return Checked::Unsound;
     };
@@ -245,5 +249,7 @@ pub fn check(register: &[u8]) -> Checked
     let Head::Capacity(capacity) = found else {
         return Checked::Unsound;
     };
-    chains(register, capacity)
+    let mut ruler = [255u8; RULER];
+    octets::put_zeros(&mut ruler, 0, Record::DETAILS);
+    chains(register, capacity, &ruler)
 }

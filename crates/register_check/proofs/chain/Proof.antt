@@ -10,7 +10,7 @@ use Rattle.register_check.proofs.chain.Tie as tie
 
 returns : tie.Need-returns
 returns c =
-    let a = c .before .before .before .before .before .args in
+    let a = c .before .before .before .before .before .before .args in
     let b = a .register .now in
     let h = c .before .before .before .head-at in
     let e : h .result + 4 ≡ 16 + 8 * number (a .kind) = omega arith in

@@ -16,7 +16,7 @@ returns-3 : tie.Need-returns-3
 returns-3 c = of-kind Audit _ (c .before .enum-told3 .given .1) (c .event-ok .ensures)
 
 returns-4 : tie.Need-returns-4
-returns-4 c = of-kind Free _ (c .before .enum-told4 .given .1) (c .is-blank .ensures ∙ blank-payload _ (c .before .before .before .before .pre))
+returns-4 c = of-kind Free _ (c .before .enum-told4 .given .1) (c .is-blank .ensures ∙ blank-payload _ (c .before .before .before .before .before .pre .0))
 
 pub payload-ok-spec : {M : Type 1} → statement M
 payload-ok-spec =

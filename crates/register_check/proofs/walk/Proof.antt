@@ -10,10 +10,10 @@ use Rattle.register_check.proofs.walk.Statement.{statement}
 use Rattle.register_check.proofs.walk.Tie as tie
 
 abbrev Inv-loop : tie.InvT-loop
-Inv-loop register capacity kind head count at₀ last₀ k₀ at last k = Tested (passes kind) register capacity count head at last k
+Inv-loop register capacity kind head count ruler at₀ last₀ k₀ at last k = Tested (passes kind) register capacity count head at last k
 
 abbrev μ-loop : tie.MeasureT-loop
-μ-loop register capacity kind head count at₀ last₀ k₀ at last k = count - k
+μ-loop register capacity kind head count ruler at₀ last₀ k₀ at last k = count - k
 
 loop-holds : tie.Need-loop-holds Inv-loop μ-loop
 loop-holds c = tested-start _ _ _ _ _
@@ -27,13 +27,13 @@ returns-2 c = let l = c .before .before .before .loop in λ p e. went-past _ _ _
 returns-3 : tie.Need-returns-3 Inv-loop μ-loop
 returns-3 c =
     let l = c .before .before .before .before .before .before .loop in
-    let a = c .before .before .before .before .before .before .before .before .args in
+    let a = c .before .before .before .before .before .before .before .before .before .args in
     λ p. tested-not _ _ _ _ _ (l .at) (l .last) (l .k) (l .inv) (search needs) (sym (payload-of (a .kind) (a .register .now) (l .at)) ∙ sym (c .before .payload-ok .ensures) ∙ not-true _ (c .if3 .taken))
 
 loop-again : tie.Need-loop-again Inv-loop μ-loop
 loop-again c =
     let l = c .before .before .before .before .before .before .before .loop in
-    let a = c .before .before .before .before .before .before .before .before .before .args in
+    let a = c .before .before .before .before .before .before .before .before .before .before .args in
     tested-on _ _ _ _ _ (l .at) (l .last) (l .k) (l .inv) (search needs) (c .before .before .before .before .before .if1 .left) (search needs) (sym (payload-of (a .kind) (a .register .now) (l .at)) ∙ sym (c .before .before .payload-ok .ensures) ∙ not-false _ (c .before .if3 .left)) _ (c .get32 .ensures)
 
 returns-4 : tie.Need-returns-4 Inv-loop μ-loop
