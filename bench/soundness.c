@@ -3,14 +3,14 @@
 
    Three registers of each size: all records free; full of typical alarms whose strings have the same lengths in all records (alike); and
    full of alarms whose strings vary by a quarter around these lengths (varied), which a processor foresees less well. Printed are
-   nanoseconds per record (the least and the median of many runs) and bytes per second (of the least), and beside them those of a memcpy
+   nanoseconds per record (the least and the median of many runs) and bytes per second (of the least), and beside them those of a bare read
    of the same bytes.
 
    Alarms are written into the register's bytes here, by the offsets of docs/layout.json: each raise checks the whole register, so that
    filling it by calls would take time with the square of its records.
 
      rt staticlib station
-     cc -O2 -Wall -Wextra bench/soundness.c target/staticlib/libstation.a -o target/soundness && target/soundness */
+     cc -O3 -Wall -Wextra bench/soundness.c target/staticlib/libstation.a -o target/soundness && target/soundness */
 #include <stdint.h>
 #include <stdio.h>
 #include <stdlib.h>
@@ -188,20 +188,28 @@ static Times check_times(Register r) {
     return summary(runs, count);
 }
 
-static Times copy_times(Register r) {
+/* The or of all words of the register: the least that a check does which looks at every byte. */
+static uint64_t joined(Register r) {
+    const uint64_t *words = (const uint64_t *)r.bytes;
+    uint64_t a = 0, b = 0, c = 0, d = 0;
+    for (size_t i = 0; i < r.size / sizeof *words; i += 4) {
+        a |= words[i];
+        b |= words[i + 1];
+        c |= words[i + 2];
+        d |= words[i + 3];
+    }
+    return a | b | c | d;
+}
+
+static Times read_times(Register r) {
     double runs[MOST_RUNS];
     size_t count = LOOKED_AT / r.records;
-    uint8_t *copy = malloc(r.size);
-    if (copy == NULL)
-        fail("no memory");
-    memset(copy, 1, r.size);
     for (size_t k = 0; k < count; k++) {
         double began = now();
-        memcpy(copy, r.bytes, r.size);
-        __asm__ volatile("" : : "r"(copy) : "memory");
+        uint64_t x = joined(r);
+        __asm__ volatile("" : : "r"(x) : "memory");
         runs[k] = now() - began;
     }
-    free(copy);
     return summary(runs, count);
 }
 
@@ -222,13 +230,13 @@ static void measure(Register r, const char *kind) {
     see_damage(r);
     printf("%8u  %-6s", r.records, kind);
     print_times(r, check_times(r));
-    print_times(r, copy_times(r));
+    print_times(r, read_times(r));
     printf("\n");
 }
 
 int main(void) {
     const uint32_t sizes[] = {LEAST_RECORDS, 10000, 100000};
-    printf("                  check, ns per record       memcpy, ns per record\n");
+    printf("                  check, ns per record       bare read, ns per record\n");
     printf(" records             least   median    GB/s     least   median    GB/s\n");
     for (size_t k = 0; k < sizeof sizes / sizeof *sizes; k++) {
         Register r = made(sizes[k]);

@@ -49,5 +49,5 @@ def soundness():
     need("cc")
     library()
     program = ROOT / "target/soundness"
-    subprocess.run(["cc", "-O2", "-Wall", "-Wextra", ROOT / "bench/soundness.c", LIBRARY, "-o", program], check=True)
+    subprocess.run(["cc", "-O3", "-Wall", "-Wextra", ROOT / "bench/soundness.c", LIBRARY, "-o", program], check=True)
     return str(program)
