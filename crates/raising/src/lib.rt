@@ -1,6 +1,5 @@
 // Raise: the active alarm with the key is updated, or a new one is stored.
 ghost use mathlib.Core.Path.{_≡_};
-ghost use Prim.Native.Nat.{_<_};
 ghost use lib.Dec.{T};
 ghost use lib.ListN.{length};
 ghost use Rattle.definition.specs.Chain.{present, first};
