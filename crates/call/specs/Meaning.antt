@@ -1,13 +1,17 @@
 -- What the parser's answer means: document 01's number and values for each of its cases.
 use Rattle.octets.specs.Bytes.{Bytes}
 use Rattle.definition.specs.Limits.{shortLimit}
+use Rattle.definition.specs.Reader.{Reader}
 use Rattle.definition.specs.Value.{PlainValue, CallValue}
 use Rattle.model.specs.Meaning.{part, optPart, within, optWithin}
+use Rattle.fields.specs.declared.Place.{Place}
+use Rattle.fields.specs.Place.{Reads}
 use Rattle.policy.specs.Meaning.{policyValue, PolicyWithin}
 use Rattle.raise.specs.Meaning.{raiseValue, clearValue, RaiseWithin, ClearWithin}
 use Rattle.call.specs.declared.Plain.{Plain}
 use Rattle.call.specs.declared.Parsed.{Parsed}
 use Rattle.call.specs.declared.Parsed.the-variants as P
+use Rattle.call.specs.declared.CallRead.{CallRead}
 
 -- ---- values
 
@@ -46,3 +50,7 @@ parsedWithin call P.Counts = Unit
 parsedWithin call P.Summary = Unit
 parsedWithin call (P.TakeAudit n) = Unit
 parsedWithin call (P.Refused n) = Unit
+
+-- ---- what is read on from a place: the value that the answer means, every part of it within its limit
+abbrev pub Says : Bytes → Place → Reader CallValue → CallRead → Type 0
+Says call at fields r = Reads call at fields (meaning call (r .parsed)) (r .next) × parsedWithin call (r .parsed)

@@ -6,7 +6,7 @@ use native.Mathlib.Omega.{arith}
 use lib.ListN.{length, getD, drop, drop-of-length-le}
 use lib.Seq.{drop-cons}
 use Rattle.octets.specs.Bytes.{Bytes}
-use Rattle.definition.specs.Reader.{got, bad, Reader, _>>=_, into}
+use Rattle.definition.specs.Reader.{got}
 use Rattle.definition.specs.Value.{CallValue}
 use Rattle.definition.specs.Parse.{whole, fieldsOf, parseCall}
 
@@ -25,13 +25,3 @@ whole-left v call i h = rw (drop-cons call i 0 h)
 
 pub whole-end : (v : CallValue) (call : Bytes) (i : ℕ) → length call ≤ i → whole (got v (drop i call)) ≡ v
 whole-end v call i h = rw (drop-of-length-le call {i = i} h)
-
--- what a call with the fields p says, by what p gives
-module _ {A : Type 0} (call : Bytes) (c : A → CallValue) (p : Reader A) where
-  pub says-bad : {k : ℕ} → p (drop 1 call) ≡ bad k → CallValue.refused k ≡ whole (into c p (drop 1 call))
-  unfolding into _>>=_
-  says-bad e = rw e
-
-  pub says-got : {v : A} {left : Bytes} {m : CallValue} → p (drop 1 call) ≡ got v left → m ≡ whole (got (c v) left) → m ≡ whole (into c p (drop 1 call))
-  unfolding into _>>=_
-  says-got e h = rw e h

@@ -1,9 +1,7 @@
 // A call: its operation and its fields, read to numbers, and to places and lengths of its strings.
-use fields::ByteRead;
 use fields::NumRead;
-use fields::OptRead;
+use fields::Place;
 use fields::Rule;
-use fields::TextRead;
 use model::OptSpan;
 use model::Record;
 use model::Span;
@@ -14,13 +12,16 @@ use raise::ClearRead;
 use raise::Raise;
 use raise::RaiseRead;
 ghost use mathlib.Core.Path.{_≡_};
-ghost use lib.ListN.{drop};
-ghost use Rattle.definition.specs.Reader.{into, number};
+ghost use mathlib.Core.Bool.{_||_};
+ghost use Prim.Native.Nat.{_<_};
+ghost use lib.Dec.{leb, eqb};
+ghost use Rattle.definition.specs.Limits.{shortLimit};
+ghost use Rattle.definition.specs.Reader.{into};
 ghost use Rattle.definition.specs.Value.{CallValue};
-ghost use Rattle.definition.specs.Parse.{raiseFields, clearFields, plainFields, policyFields, severityOrAll, historyFields, fieldsOf, parseCall};
-ghost use Rattle.fields.specs.Answers.{byteOut};
-ghost use Rattle.call.specs.Meaning.{meaning, parsedWithin};
-ghost use Rattle.call.specs.Answers.{plainOut, plainFits, plainCall, policyCall, Ends, Says};
+ghost use Rattle.definition.specs.Parse.{plainFields, severityOrAll, historyFields, fieldsOf, whole, parseCall};
+ghost use Rattle.model.specs.Meaning.{within};
+ghost use Rattle.fields.specs.Place.{outAt, Reads};
+ghost use Rattle.call.specs.Meaning.{plainValue, meaning, parsedWithin, Says};
 
 // An acknowledgement or a suppression without a policy. The flag is 0 or 1.
 pub struct Plain {
@@ -46,210 +47,206 @@ pub enum Parsed {
     Refused(u8),
 }
 
-// What a reader answers: a value and the place after it, or the number of a refusal.
-enum PlainRead {
-    Got(Plain, usize),
-    Bad(u8),
+// What a reader answers: a value, and where the reading stands after it.
+struct PlainRead {
+    plain: Plain,
+    next: Place,
 }
 
-// ---- the call's end
-
-// A call whose fields end at a place: nothing may come after.
-fn finished(call: &[u8], at: usize, p: Parsed) -> Parsed
-    requires { ⌜ parsedWithin (now call) p ⌝ }
-    ensures { λ r. ⌜ Ends (now (call .entry)) (meaning (now (call .entry)) p) at r ⌝ }
-{
-    if at < call.len() {
-        return Parsed::Refused(24);
-    }
-    p
+struct CallRead {
+    parsed: Parsed,
+    next: Place,
 }
 
 // ---- 1 raise, 2 clear
 
-fn raise_call(call: &[u8]) -> Parsed
-    ensures { λ r. ⌜ Says (now (call .entry)) (into CallValue.raise raiseFields) r ⌝ }
+fn raise_of(r: RaiseRead) -> CallRead
+    ensures { λ c. ⌜ (c .parsed ≡ Parsed.Raise (r .raise)) × (c .next ≡ r .next) ⌝ }
 {
-    match raise::raise_at(call, 1) {
-        RaiseRead::Bad(k) => Parsed::Refused(k),
-        RaiseRead::Got(q, j) => finished(call, j, Parsed::Raise(q)),
+    let RaiseRead { raise, next } = r;
+    CallRead {
+        parsed: Parsed::Raise(raise),
+        next: next,
     }
 }
 
-fn clear_call(call: &[u8]) -> Parsed
-    ensures { λ r. ⌜ Says (now (call .entry)) (into CallValue.clear clearFields) r ⌝ }
+fn clear_of(r: ClearRead) -> CallRead
+    ensures { λ c. ⌜ (c .parsed ≡ Parsed.Clear (r .clear)) × (c .next ≡ r .next) ⌝ }
 {
-    match raise::clear_at(call, 1) {
-        ClearRead::Bad(k) => Parsed::Refused(k),
-        ClearRead::Got(q, j) => finished(call, j, Parsed::Clear(q)),
+    let ClearRead { clear, next } = r;
+    CallRead {
+        parsed: Parsed::Clear(clear),
+        next: next,
     }
 }
 
-// ---- 3 acknowledge, 4 suppress, and the same with policy
+// ---- 3 acknowledge, 4 suppress, and 5, 6 the same with policy
 
-fn plain_at(call: &[u8], at: usize) -> PlainRead
-    ensures { λ r. ⌜ (plainOut (now (call .entry)) r ≡ plainFields (drop at (now (call .entry)))) × plainFits (now (call .entry)) r ⌝ }
+fn plain_at(call: &[u8], at: Place) -> PlainRead
+    ensures { λ r. ⌜ Reads (now (call .entry)) at plainFields (plainValue (now (call .entry)) (r .plain)) (r .next) × within (now (call .entry)) shortLimit (r .plain .id) ⌝ }
 {
-    let mut i = 0;
-    let time = match fields::number_at(call, at, 8) {
-        NumRead::Bad(k) => return PlainRead::Bad(k),
-        NumRead::Got(x, j) => {
-            i = j;
-            x
-        }
-    };
-    let id = match fields::text_at(call, i, Record::SHORT) {
-        TextRead::Bad(k) => return PlainRead::Bad(k),
-        TextRead::Got(q, j) => {
-            i = j;
-            q
-        }
-    };
-    match fields::choice_at(call, i, 0, 1) {
-        ByteRead::Bad(k) => PlainRead::Bad(k),
-        ByteRead::Got(authorised, j) => {
-            PlainRead::Got(
-                Plain {
-                    time: time,
-                    id: id,
-                    authorised: authorised,
-                },
-                j,
-            )
-        }
+    let time = fields::number_at(call, at, 8);
+    let at = time.next;
+    let id = fields::text_at(call, at, Record::SHORT);
+    let at = id.next;
+    let id = id.text;
+    let authorised = fields::choice_at(call, at, 0, 1);
+    let at = authorised.next;
+    PlainRead {
+        plain: Plain {
+            time: time.value,
+            id: id,
+            authorised: authorised.value,
+        },
+        next: at,
     }
 }
 
-// The operation is 3, or it is 4.
-fn plain_call(call: &[u8], op: u8) -> Parsed
-    ensures { λ r. ⌜ Says (now (call .entry)) (into (plainCall op) plainFields) r ⌝ }
+fn acknowledge_of(r: PlainRead) -> CallRead
+    ensures { λ c. ⌜ (c .parsed ≡ Parsed.Acknowledge (r .plain)) × (c .next ≡ r .next) ⌝ }
 {
-    let mut i = 0;
-    let p = match plain_at(call, 1) {
-        PlainRead::Bad(k) => return Parsed::Refused(k),
-        PlainRead::Got(q, j) => {
-            i = j;
-            q
-        }
-    };
-    match op {
-        3 => finished(call, i, Parsed::Acknowledge(p)),
-        _ => finished(call, i, Parsed::Suppress(p)),
+    let PlainRead { plain, next } = r;
+    CallRead {
+        parsed: Parsed::Acknowledge(plain),
+        next: next,
     }
 }
 
-// The operation is 5, or it is 6.
-fn policy_call(call: &[u8], op: u8) -> Parsed
-    ensures { λ r. ⌜ Says (now (call .entry)) (into (policyCall op) policyFields) r ⌝ }
+fn suppress_of(r: PlainRead) -> CallRead
+    ensures { λ c. ⌜ (c .parsed ≡ Parsed.Suppress (r .plain)) × (c .next ≡ r .next) ⌝ }
 {
-    let mut i = 0;
-    let p = match policy::policy_at(call, 1) {
-        PolicyRead::Bad(k) => return Parsed::Refused(k),
-        PolicyRead::Got(q, j) => {
-            i = j;
-            q
-        }
-    };
-    match op {
-        5 => finished(call, i, Parsed::AcknowledgePolicy(p)),
-        _ => finished(call, i, Parsed::SuppressPolicy(p)),
+    let PlainRead { plain, next } = r;
+    CallRead {
+        parsed: Parsed::Suppress(plain),
+        next: next,
+    }
+}
+
+fn acknowledge_policy_of(r: PolicyRead) -> CallRead
+    ensures { λ c. ⌜ (c .parsed ≡ Parsed.AcknowledgePolicy (r .policy)) × (c .next ≡ r .next) ⌝ }
+{
+    let PolicyRead { policy, next } = r;
+    CallRead {
+        parsed: Parsed::AcknowledgePolicy(policy),
+        next: next,
+    }
+}
+
+fn suppress_policy_of(r: PolicyRead) -> CallRead
+    ensures { λ c. ⌜ (c .parsed ≡ Parsed.SuppressPolicy (r .policy)) × (c .next ≡ r .next) ⌝ }
+{
+    let PolicyRead { policy, next } = r;
+    CallRead {
+        parsed: Parsed::SuppressPolicy(policy),
+        next: next,
     }
 }
 
 // ---- 7 expire, 8 active list, 9 history, 12 take audit
 
-fn expire_call(call: &[u8]) -> Parsed
-    ensures { λ r. ⌜ Says (now (call .entry)) (into CallValue.expire (number 8)) r ⌝ }
+fn expire_of(r: NumRead) -> CallRead
+    ensures { λ c. ⌜ (c .parsed ≡ Parsed.Expire (r .value)) × (c .next ≡ r .next) ⌝ }
 {
-    match fields::number_at(call, 1, 8) {
-        NumRead::Bad(k) => Parsed::Refused(k),
-        NumRead::Got(cutoff, j) => finished(call, j, Parsed::Expire(cutoff)),
+    let NumRead { value, next } = r;
+    CallRead {
+        parsed: Parsed::Expire(value),
+        next: next,
     }
+}
+
+fn is_severity_or_all(v: u64) -> bool
+    ensures { λ r. ⌜ r ≡ (leb v 5 || eqb v 255) ⌝ }
+{
+    v <= 5 || v == 255
 }
 
 // A severity, or 255 for all.
-fn severity_at(call: &[u8], at: usize) -> ByteRead
-    ensures { λ r. ⌜ byteOut (now (call .entry)) r ≡ severityOrAll (drop at (now (call .entry))) ⌝ }
+fn active_at(call: &[u8], at: Place) -> CallRead
+    ensures { λ r. ⌜ Says (now (call .entry)) at (into CallValue.active severityOrAll) r ⌝ }
 {
-    let mut i = 0;
-    let v = match fields::number_at(call, at, 1) {
-        NumRead::Bad(k) => return ByteRead::Bad(k),
-        NumRead::Got(x, j) => {
-            i = j;
-            x as u8
-        }
-    };
-    if v <= 5 {
-        return ByteRead::Got(v, i);
-    }
-    if v == 255 {
-        return ByteRead::Got(v, i);
-    }
-    ByteRead::Bad(25)
-}
-
-fn active_call(call: &[u8]) -> Parsed
-    ensures { λ r. ⌜ Says (now (call .entry)) (into CallValue.active severityOrAll) r ⌝ }
-{
-    match severity_at(call, 1) {
-        ByteRead::Bad(k) => Parsed::Refused(k),
-        ByteRead::Got(v, j) => finished(call, j, Parsed::Active(v)),
+    let severity = fields::number_at(call, at, 1);
+    let at = severity.next;
+    let severity = severity.value;
+    CallRead {
+        parsed: Parsed::Active(severity as u8),
+        next: fields::refuse_unless(at, is_severity_or_all(severity), 25),
     }
 }
 
-fn history_call(call: &[u8]) -> Parsed
-    ensures { λ r. ⌜ Says (now (call .entry)) historyFields r ⌝ }
+fn history_at(call: &[u8], at: Place) -> CallRead
+    ensures { λ r. ⌜ Says (now (call .entry)) at historyFields r ⌝ }
 {
-    let mut i = 0;
-    let tenant = match fields::option_at(call, 1, Record::SHORT, Rule::Text) {
-        OptRead::Bad(k) => return Parsed::Refused(k),
-        OptRead::Got(q, j) => {
-            i = j;
-            q
-        }
-    };
-    match fields::option_at(call, i, Record::SHORT, Rule::Text) {
-        OptRead::Bad(k) => Parsed::Refused(k),
-        OptRead::Got(slice, j) => finished(
-            call,
-            j,
-            Parsed::History {
-                tenant: tenant,
-                slice: slice,
-            },
-        ),
+    let tenant = fields::option_at(call, at, Record::SHORT, Rule::Text);
+    let at = tenant.next;
+    let tenant = tenant.text;
+    let slice = fields::option_at(call, at, Record::SHORT, Rule::Text);
+    let at = slice.next;
+    let slice = slice.text;
+    CallRead {
+        parsed: Parsed::History {
+            tenant: tenant,
+            slice: slice,
+        },
+        next: at,
     }
 }
 
-fn take_audit_call(call: &[u8]) -> Parsed
-    ensures { λ r. ⌜ Says (now (call .entry)) (into CallValue.takeAudit (number 2)) r ⌝ }
+fn take_audit_of(r: NumRead) -> CallRead
+    requires { ⌜ r .value < 65536 ⌝ }
+    ensures { λ c. ⌜ (c .parsed ≡ Parsed.TakeAudit (r .value)) × (c .next ≡ r .next) ⌝ }
 {
-    match fields::number_at(call, 1, 2) {
-        NumRead::Bad(k) => Parsed::Refused(k),
-        NumRead::Got(n, j) => finished(call, j, Parsed::TakeAudit(n as u16)),
+    let NumRead { value, next } = r;
+    CallRead {
+        parsed: Parsed::TakeAudit(value as u16),
+        next: next,
     }
 }
 
 // ---- the whole call
 
 // The fields of an operation.
-fn operation(call: &[u8], op: u8) -> Parsed
-    ensures { λ r. ⌜ Says (now (call .entry)) (fieldsOf op) r ⌝ }
+fn operation_at(call: &[u8], at: Place, op: u8) -> CallRead
+    ensures { λ r. ⌜ Says (now (call .entry)) at (fieldsOf op) r ⌝ }
 {
     match op {
-        1 => raise_call(call),
-        2 => clear_call(call),
-        3 => plain_call(call, 3),
-        4 => plain_call(call, 4),
-        5 => policy_call(call, 5),
-        6 => policy_call(call, 6),
-        7 => expire_call(call),
-        8 => active_call(call),
-        9 => history_call(call),
-        10 => finished(call, 1, Parsed::Counts),
-        11 => finished(call, 1, Parsed::Summary),
-        12 => take_audit_call(call),
-        _ => Parsed::Refused(23),
+        1 => raise_of(raise::raise_at(call, at)),
+        2 => clear_of(raise::clear_at(call, at)),
+        3 => acknowledge_of(plain_at(call, at)),
+        4 => suppress_of(plain_at(call, at)),
+        5 => acknowledge_policy_of(policy::policy_at(call, at)),
+        6 => suppress_policy_of(policy::policy_at(call, at)),
+        7 => expire_of(fields::number_at(call, at, 8)),
+        8 => active_at(call, at),
+        9 => history_at(call, at),
+        10 => CallRead {
+            parsed: Parsed::Counts,
+            next: at,
+        },
+        11 => CallRead {
+            parsed: Parsed::Summary,
+            next: at,
+        },
+        12 => take_audit_of(fields::number_at(call, at, 2)),
+        _ => CallRead {
+            parsed: Parsed::Refused(23),
+            next: fields::refuse_unless(at, false, 23),
+        },
+    }
+}
+
+// A call whose fields were read: nothing may come after them.
+fn finished(call: &[u8], at: Place, p: Parsed) -> Parsed
+    requires { ⌜ parsedWithin (now call) p ⌝ }
+    ensures { λ r. ⌜ (meaning (now (call .entry)) r ≡ whole (outAt (now (call .entry)) (meaning (now (call .entry)) p) at)) × parsedWithin (now (call .entry)) r ⌝ }
+{
+    match at {
+        Place::Fault(k) => Parsed::Refused(k),
+        Place::At(i) => {
+            if i < call.len() {
+                return Parsed::Refused(24);
+            }
+            p
+        }
     }
 }
 
@@ -260,5 +257,6 @@ pub fn parse(call: &[u8]) -> Parsed
     if call.len() == 0 {
         return Parsed::Refused(23);
     }
-    operation(call, call[0])
+    let CallRead { parsed, next } = operation_at(call, Place::At(1), call[0]);
+    finished(call, next, parsed)
 }

@@ -1,3 +1,5 @@
-pub mod Answers
-pub mod ReaderLaws
+pub mod Place
 pub mod PlaceLaws
+pub mod BytesLaws
+pub mod Rule
+pub mod RuleLaws

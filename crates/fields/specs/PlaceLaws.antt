@@ -1,44 +1,37 @@
--- A reader is lent the part of the call from a place on. What it answers of that part, said of the call.
-use mathlib.Core.Path.{_≡_, sym, ap, _∙_}
-use mathlib.Core.List.{[]}
-use Prim.Native.Nat.{ℕ, _+_, _-_, _<_}
-use native.Mathlib.Nat.{add-sub-cancel-left}
-use native.Mathlib.Omega.{arith}
-use lib.ListN.{length, take, drop, length-drop, drop-of-length-le}
-use lib.Seq.{drop-drop}
+-- How readings join: every chain of fields is `step` after `step`, with `tested` where a test may refuse, and `done` at its end.
+use Prim.Native.Nat.{ℕ, _≤_}
+use mathlib.Core.Path.{_≡_, refl, sym, ap, _∙_}
+use mathlib.Core.Bool.{Bool, true, false, cond}
 use Rattle.octets.specs.Bytes.{Bytes}
-use Rattle.octets.specs.PartLaws.{part-rest}
-use Rattle.definition.specs.Reader.{got, bad, Reader}
-use Rattle.model.specs.Meaning.{part}
-use Rattle.model.specs.declared.Span.{Span}
+use Rattle.definition.specs.Reader.{Out, got, bad, Reader, next, _>>=_, give, refuse}
+use Rattle.fields.specs.Place.{outAt, from, Reads, checked}
+use Rattle.fields.specs.declared.Place.{Place}
+use Rattle.fields.specs.declared.Place.the-variants.{At, Fault}
 
--- a part of the bytes from `at` on, as a part of the whole
-abbrev pub moved : ℕ → Span → Span
-moved at p = record { at = at + p .at; len = p .len }
+pub done : {A : Type 0} {call : Bytes} {v : A} {q : Place} → Reads call q (give v) v q
+done {q = At i} = record { out = refl }
+done {q = Fault k} = record { out = refl }
 
-pub part-moved : (call : Bytes) (at : ℕ) (p : Span) → part (drop at call) p ≡ part call (moved at p)
-part-moved call at p = rw (drop-drop (p .at) at call)
+pub stays : {A : Type 0} {call : Bytes} {r : Reader A} {v : A} {k : ℕ} → Reads call (Fault k) r v (Fault k)
+stays = record { out = refl }
 
--- the part that a span is, as the code lends it
-pub lent-part : (s : Bytes) (p : Span) → take (p .at + p .len - p .at) (drop (p .at) s) ≡ part s p
-lent-part s p = rw add-sub-cancel-left
+module _ {A B : Type 0} (call : Bytes) (k : A → Reader B) where
+  next-out : (v : A) (q : Place) → next (outAt call v q) k ≡ from call q (k v)
+  next-out v (At i) = refl
+  next-out v (Fault n) = refl
 
--- past the end nothing is read
-pub past : {A : Type 0} (r : Reader A) (call : Bytes) (at : ℕ) → r [] ≡ bad 24 → length call < at → bad 24 ≡ r (drop at call)
-past r call at e h = rw (drop-of-length-le call {i = at} (omega arith)) (sym e)
+  from-next : (p : Place) (r : Reader A) → from call p (_>>=_ r k) ≡ next (from call p r) k
+  unfolding _>>=_
+  from-next (At i) r = refl
+  from-next (Fault n) r = refl
 
--- the part of the call that the code lends
-abbrev pub rest : Bytes → ℕ → Bytes
-rest call at = take (length call - at) (drop at call)
+-- a field, and what is read on from where it ends
+pub step : {A B : Type 0} {call : Bytes} {p q t : Place} {r : Reader A} {v : A} {w : B} (k : A → Reader B) → Reads call p r v q → Reads call q (k v) w t → Reads call p (_>>=_ r k) w t
+step {call = call} {p} {q} {r = r} {v} k a b = record { out = b .out ∙ sym (next-out call k v q) ∙ ap (λ (o : Out _). next o k) (a .out) ∙ sym (from-next call k p r) }
 
-module _ (call : Bytes) (at : ℕ) where
-  pub length-rest : length (rest call at) ≡ length call - at
-  length-rest = ap length (part-rest call at) ∙ length-drop at call
-
-  module _ {A : Type 0} (r : Reader A) where
-    pub lent-bad : {n : ℕ} → r (rest call at) ≡ bad n → r (drop at call) ≡ bad n
-    lent-bad e = sym (ap r (part-rest call at)) ∙ e
-
-    -- v is the value in terms of the part, w in terms of the call
-    pub lent-got : (v : Bytes → A) (w : A) (j : ℕ) → v (drop at call) ≡ w → r (rest call at) ≡ got (v (rest call at)) (drop j (rest call at)) → r (drop at call) ≡ got w (drop (at + j) call)
-    lent-got v w j e g = rw (← e, ← drop-drop j at call, ← part-rest call at) g
+-- a test between two fields
+pub tested : {A : Type 0} {call : Bytes} {q t : Place} {r : Reader A} {v : A} (ok : Bool) (n : ℕ) → Reads call (checked q ok n) r v t → Reads call q (cond ok r (refuse n)) v t
+unfolding checked
+tested true n a = a
+tested {q = At i} false n a = record { out = a .out }
+tested {q = Fault k} false n a = record { out = a .out }

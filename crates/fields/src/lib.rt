@@ -1,39 +1,49 @@
-// The fields of a call at a place. The part from the place on is lent to a reader, and what it answers becomes places in the call.
+// The fields of a call, on from a place: each is read from its part of the call's bytes.
+use cause::Cause;
 use model::CauseSpan;
 use model::OptSpan;
+use model::Record;
 use model::Span;
 ghost use mathlib.Core.Path.{_≡_};
-ghost use Prim.Native.Nat.{_<_, _≤_};
-ghost use lib.ListN.{drop};
-ghost use Rattle.definition.specs.Reader.{number, choice, text, optional, causeText};
-ghost use Rattle.fields.specs.Answers.{numOut, numFits, byteOut, byteFits, stringBy, textOut, textFits, optOut, optFits, causeOut, causeFits};
+ghost use mathlib.Core.Bool.{_&&_};
+ghost use Prim.Native.Nat.{_+_, _^_, _≤_, _<_};
+ghost use lib.Dec.{leb};
+ghost use lib.ListN.{length};
+ghost use Rattle.definition.specs.Reader.{bytes, number, choice, blob, text, optional, causeText};
+ghost use Rattle.model.specs.Meaning.{part, optPart, causePart, within, optWithin, causeWithin};
+ghost use Rattle.fields.specs.Place.{checked, noBytes, room, Reads};
+ghost use Rattle.fields.specs.Rule.{obeyed, stringBy};
 
-mod part;
-
-// What a reader answers: a value and the place after its field, or the number of a refusal.
-pub enum NumRead {
-    Got(u64, usize),
-    Bad(u8),
+// Where the reading of a call stands: at a place, or at its first fault, which wins: a reader that is handed a fault hands it on.
+pub enum Place {
+    At(usize),
+    Fault(u8),
 }
 
-pub enum ByteRead {
-    Got(u8, usize),
-    Bad(u8),
+// What a reader answers: a value, and where the reading stands after it. The value means something where that is a place.
+pub struct NumRead {
+    pub value: u64,
+    pub next: Place,
 }
 
-pub enum TextRead {
-    Got(Span, usize),
-    Bad(u8),
+pub struct ByteRead {
+    pub value: u8,
+    pub next: Place,
 }
 
-pub enum OptRead {
-    Got(OptSpan, usize),
-    Bad(u8),
+pub struct TextRead {
+    pub text: Span,
+    pub next: Place,
 }
 
-pub enum CauseRead {
-    Got(CauseSpan, usize),
-    Bad(u8),
+pub struct OptRead {
+    pub text: OptSpan,
+    pub next: Place,
+}
+
+pub struct CauseRead {
+    pub cause: CauseSpan,
+    pub next: Place,
 }
 
 // Which strings a field takes: those in UTF-8, or any bytes.
@@ -42,98 +52,185 @@ pub enum Rule {
     Blob,
 }
 
-// A number of n bytes.
-pub fn number_at(call: &[u8], at: usize, n: usize) -> NumRead
-    requires { ⌜ (0 < n) × (n ≤ 8) ⌝ }
-    ensures { λ r. ⌜ (numOut (now (call .entry)) r ≡ number n (drop at (now (call .entry)))) × numFits (now (call .entry)) n r ⌝ }
+// A fault with this number, unless a test held or there is a fault already.
+pub fn refuse_unless(at: Place, ok: bool, number: u8) -> Place
+    ensures { λ r. ⌜ r ≡ checked at ok number ⌝ }
 {
-    if call.len() < at {
-        return NumRead::Bad(24);
+    if ok {
+        return at;
     }
-    match part::read_number(&call[at..], n) {
-        NumRead::Bad(k) => NumRead::Bad(k),
-        NumRead::Got(x, j) => NumRead::Got(x, at + j),
+    match at {
+        Place::At(_) => Place::Fault(number),
+        Place::Fault(k) => Place::Fault(k),
     }
 }
 
-// A byte from lo to hi.
-pub fn choice_at(call: &[u8], at: usize, lo: u8, hi: u8) -> ByteRead
-    ensures { λ r. ⌜ (byteOut (now (call .entry)) r ≡ choice lo hi (drop at (now (call .entry)))) × byteFits (now (call .entry)) lo hi r ⌝ }
+// ---- parts of the call
+
+// The part of the call that a span is.
+fn part_of(call: &[u8], p: Span) -> &[u8]
+    requires { ⌜ p .at + p .len ≤ length (now call) ⌝ }
+    ensures { λ r. ⌜ now r ≡ part (now (call .entry)) p ⌝ }
 {
-    if call.len() < at {
-        return ByteRead::Bad(24);
-    }
-    match part::read_choice(&call[at..], lo, hi) {
-        ByteRead::Bad(k) => ByteRead::Bad(k),
-        ByteRead::Got(x, j) => ByteRead::Got(x, at + j),
+    let a = p.at;
+    let e = a + p.len;
+    &call[a..e]
+}
+
+fn no_bytes(next: Place) -> TextRead
+    ensures { λ r. ⌜ r ≡ noBytes next ⌝ }
+{
+    TextRead {
+        text: Span { at: 0, len: 0 },
+        next: next,
     }
 }
 
-// A string in UTF-8.
-pub fn text_at(call: &[u8], at: usize, limit: usize) -> TextRead
-    ensures { λ r. ⌜ (textOut (now (call .entry)) r ≡ text limit (drop at (now (call .entry)))) × textFits (now (call .entry)) limit r ⌝ }
+// The next n bytes.
+fn bytes_at(call: &[u8], at: Place, n: usize) -> TextRead
+    ensures { λ r. ⌜ Reads (now (call .entry)) at (bytes n) (part (now (call .entry)) (r .text)) (r .next) × within (now (call .entry)) (room at n) (r .text) ⌝ }
 {
-    if call.len() < at {
-        return TextRead::Bad(24);
-    }
-    match part::read_text(&call[at..], limit) {
-        TextRead::Bad(k) => TextRead::Bad(k),
-        TextRead::Got(q, j) => {
-            TextRead::Got(
-                Span {
-                    at: at + q.at,
-                    len: q.len,
-                },
-                at + j,
-            )
+    match at {
+        Place::Fault(k) => no_bytes(Place::Fault(k)),
+        Place::At(i) => {
+            if n == 0 {
+                return no_bytes(Place::At(i));
+            }
+            if call.len() < i {
+                return no_bytes(Place::Fault(24));
+            }
+            if call.len() - i < n {
+                return no_bytes(Place::Fault(24));
+            }
+            TextRead {
+                text: Span { at: i, len: n },
+                next: Place::At(i + n),
+            }
         }
     }
 }
 
-// An optional string.
-pub fn option_at(call: &[u8], at: usize, limit: usize, rule: Rule) -> OptRead
-    ensures { λ r. ⌜ (optOut (now (call .entry)) r ≡ optional (stringBy rule limit) (drop at (now (call .entry)))) × optFits (now (call .entry)) limit r ⌝ }
+// ---- numbers
+
+// A number of n bytes.
+pub fn number_at(call: &[u8], at: Place, n: usize) -> NumRead
+    requires { ⌜ n ≤ 8 ⌝ }
+    ensures { λ r. ⌜ Reads (now (call .entry)) at (number n) (r .value) (r .next) × (r .value < 256 ^ n) ⌝ }
 {
-    if call.len() < at {
-        return OptRead::Bad(24);
-    }
-    match part::read_option(&call[at..], limit, rule) {
-        OptRead::Bad(k) => OptRead::Bad(k),
-        OptRead::Got(p, j) => match p {
-            OptSpan::Absent => OptRead::Got(OptSpan::Absent, at + j),
-            OptSpan::Present(q) => {
-                OptRead::Got(
-                    OptSpan::Present(Span {
-                        at: at + q.at,
-                        len: q.len,
-                    }),
-                    at + j,
-                )
-            }
-        },
+    let b = bytes_at(call, at, n);
+    let p = b.text;
+    let next = b.next;
+    NumRead {
+        value: octets::number(part_of(call, p)),
+        next: next,
     }
 }
 
-// A cause.
-pub fn cause_at(call: &[u8], at: usize) -> CauseRead
-    ensures { λ r. ⌜ (causeOut (now (call .entry)) r ≡ causeText (drop at (now (call .entry)))) × causeFits (now (call .entry)) r ⌝ }
+fn among(v: u8, lo: u8, hi: u8) -> bool
+    ensures { λ r. ⌜ r ≡ leb lo v && leb v hi ⌝ }
 {
-    if call.len() < at {
-        return CauseRead::Bad(24);
+    if v < lo {
+        return false;
     }
-    match part::read_cause(&call[at..]) {
-        CauseRead::Bad(k) => CauseRead::Bad(k),
-        CauseRead::Got(p, j) => match p {
-            CauseSpan::Name(k) => CauseRead::Got(CauseSpan::Name(k), at + j),
-            CauseSpan::Other(q) => {
-                CauseRead::Got(
-                    CauseSpan::Other(Span {
-                        at: at + q.at,
-                        len: q.len,
-                    }),
-                    at + j,
-                )
-            }
+    v <= hi
+}
+
+// A byte from lo to hi.
+pub fn choice_at(call: &[u8], at: Place, lo: u8, hi: u8) -> ByteRead
+    ensures { λ r. ⌜ Reads (now (call .entry)) at (choice lo hi) (r .value) (r .next) ⌝ }
+{
+    let b = number_at(call, at, 1);
+    let v = b.value as u8;
+    let next = b.next;
+    ByteRead {
+        value: v,
+        next: refuse_unless(next, among(v, lo, hi), 25),
+    }
+}
+
+// ---- strings
+
+// A string, its bytes as they stand. The limit is tested before the bytes are looked for.
+fn blob_at(call: &[u8], at: Place, limit: usize) -> TextRead
+    ensures { λ r. ⌜ Reads (now (call .entry)) at (blob limit) (part (now (call .entry)) (r .text)) (r .next) × within (now (call .entry)) limit (r .text) ⌝ }
+{
+    let n = number_at(call, at, 4);
+    let len = n.value as usize;
+    let next = n.next;
+    bytes_at(call, refuse_unless(next, len <= limit, 26), len)
+}
+
+// Whether a rule takes a string's bytes: they are handed on.
+fn obeys(part: &[u8], rule: Rule) -> bool
+    ensures { λ r. ⌜ r ≡ obeyed rule (now (part .entry)) ⌝ }
+{
+    match rule {
+        Rule::Text => utf8::is_utf8(part),
+        Rule::Blob => true,
+    }
+}
+
+// A string by its rule.
+fn string_at(call: &[u8], at: Place, limit: usize, rule: Rule) -> TextRead
+    ensures { λ r. ⌜ Reads (now (call .entry)) at (stringBy rule limit) (part (now (call .entry)) (r .text)) (r .next) × within (now (call .entry)) limit (r .text) ⌝ }
+{
+    let b = blob_at(call, at, limit);
+    let p = b.text;
+    let next = b.next;
+    TextRead {
+        text: p,
+        next: refuse_unless(next, obeys(part_of(call, p), rule), 27),
+    }
+}
+
+// A string in UTF-8.
+pub fn text_at(call: &[u8], at: Place, limit: usize) -> TextRead
+    ensures { λ r. ⌜ Reads (now (call .entry)) at (text limit) (part (now (call .entry)) (r .text)) (r .next) × within (now (call .entry)) limit (r .text) ⌝ }
+{
+    string_at(call, at, limit, Rule::Text)
+}
+
+// An optional string: byte 0, or byte 1 and the string.
+pub fn option_at(call: &[u8], at: Place, limit: usize, rule: Rule) -> OptRead
+    ensures { λ r. ⌜ Reads (now (call .entry)) at (optional (stringBy rule limit)) (optPart (now (call .entry)) (r .text)) (r .next) × optWithin (now (call .entry)) limit (r .text) ⌝ }
+{
+    let b = choice_at(call, at, 0, 1);
+    let next = b.next;
+    if b.value == 0 {
+        return OptRead {
+            text: OptSpan::Absent,
+            next: next,
+        };
+    }
+    let t = string_at(call, next, limit, rule);
+    let p = t.text;
+    let end = t.next;
+    OptRead {
+        text: OptSpan::Present(p),
+        next: end,
+    }
+}
+
+// A cause: a string in UTF-8, whose bytes are handed on.
+pub fn cause_at(call: &[u8], at: Place) -> CauseRead
+    ensures { λ r. ⌜ Reads (now (call .entry)) at causeText (causePart (now (call .entry)) (r .cause)) (r .next) × causeWithin (now (call .entry)) (r .cause) ⌝ }
+{
+    let t = text_at(call, at, Record::CAUSE);
+    let p = t.text;
+    let a = p.at;
+    let next = t.next;
+    match cause::cause_of(part_of(call, p)) {
+        Cause::Name(k) => CauseRead {
+            cause: CauseSpan::Name(k),
+            next: next,
+        },
+        Cause::Other { at: x, len: n } => CauseRead {
+            cause: CauseSpan::Other(Span { at: a + x, len: n }),
+            next: next,
+        },
+        Cause::No => CauseRead {
+            cause: CauseSpan::Name(0),
+            next: refuse_unless(next, false, 28),
         },
     }
 }

@@ -1,37 +1,34 @@
 // The affected object of a call, and the fields that a raise and a clear share.
-use fields::ByteRead;
-use fields::CauseRead;
-use fields::NumRead;
-use fields::OptRead;
+use fields::Place;
 use fields::Rule;
-use fields::TextRead;
 use model::AffectedObject;
 use model::KeyFields;
 use model::Places;
 use model::Record;
 use model::Span;
 ghost use mathlib.Core.Path.{_≡_};
-ghost use lib.ListN.{drop};
 ghost use Rattle.octets.specs.Bytes.{Bytes};
 ghost use Rattle.definition.specs.Limits.{shortLimit};
 ghost use Rattle.definition.specs.Reader.{into, text};
 ghost use Rattle.definition.specs.Parse.{pair, sessionStore, dataPlaneQueue, objectOf, object, places, key};
-ghost use Rattle.object.specs.Answers.{pairKind, IsPair, singleKind, IsSingle, objectOut, objectFits, placesOut, placesFits, keyOut, keyFits};
+ghost use Rattle.model.specs.Meaning.{objectValue, placesValue, keyValue, objectWithin, PlacesWithin, KeyWithin};
+ghost use Rattle.fields.specs.Place.{Reads};
+ghost use Rattle.object.specs.Kinds.{pairKind, IsPair, singleKind, IsSingle};
 
-// What a reader answers: a value and the place after it, or the number of a refusal.
-enum ObjectRead {
-    Got(AffectedObject, usize),
-    Bad(u8),
+// What a reader answers: a value, and where the reading stands after it.
+struct ObjectRead {
+    object: AffectedObject,
+    next: Place,
 }
 
-enum PlacesRead {
-    Got(Places, usize),
-    Bad(u8),
+struct PlacesRead {
+    places: Places,
+    next: Place,
 }
 
-pub enum KeyRead {
-    Got(KeyFields, usize),
-    Bad(u8),
+pub struct KeyRead {
+    pub key: KeyFields,
+    pub next: Place,
 }
 
 // ---- the strings of a kind, after its byte
@@ -62,98 +59,77 @@ fn single_of(kind: u8, a: Span) -> AffectedObject
 }
 
 // Kinds 1, 2 and 3: two strings.
-fn pair_at(call: &[u8], at: usize, kind: u8) -> ObjectRead
-    ensures { λ r. ⌜ (objectOut (now (call .entry)) r ≡ pair (pairKind kind) (drop at (now (call .entry)))) × objectFits (now (call .entry)) r ⌝ }
+fn pair_at(call: &[u8], at: Place, kind: u8) -> ObjectRead
+    ensures { λ r. ⌜ Reads (now (call .entry)) at (pair (pairKind kind)) (objectValue (now (call .entry)) (r .object)) (r .next) × objectWithin (now (call .entry)) (r .object) ⌝ }
 {
-    let mut i = 0;
-    let a = match fields::text_at(call, at, Record::SHORT) {
-        TextRead::Bad(k) => return ObjectRead::Bad(k),
-        TextRead::Got(q, j) => {
-            i = j;
-            q
-        }
-    };
-    let b = match fields::text_at(call, i, Record::SHORT) {
-        TextRead::Bad(k) => return ObjectRead::Bad(k),
-        TextRead::Got(q, j) => {
-            i = j;
-            q
-        }
-    };
-    ObjectRead::Got(pair_of(kind, a, b), i)
+    let a = fields::text_at(call, at, Record::SHORT);
+    let at = a.next;
+    let a = a.text;
+    let b = fields::text_at(call, at, Record::SHORT);
+    let at = b.next;
+    let b = b.text;
+    ObjectRead {
+        object: pair_of(kind, a, b),
+        next: at,
+    }
 }
 
 // Kind 4: a string and the optional shard.
-fn session_store_at(call: &[u8], at: usize) -> ObjectRead
-    ensures { λ r. ⌜ (objectOut (now (call .entry)) r ≡ sessionStore (drop at (now (call .entry)))) × objectFits (now (call .entry)) r ⌝ }
+fn session_store_at(call: &[u8], at: Place) -> ObjectRead
+    ensures { λ r. ⌜ Reads (now (call .entry)) at sessionStore (objectValue (now (call .entry)) (r .object)) (r .next) × objectWithin (now (call .entry)) (r .object) ⌝ }
 {
-    let mut i = 0;
-    let a = match fields::text_at(call, at, Record::SHORT) {
-        TextRead::Bad(k) => return ObjectRead::Bad(k),
-        TextRead::Got(q, j) => {
-            i = j;
-            q
-        }
-    };
-    match fields::option_at(call, i, Record::SHORT, Rule::Text) {
-        OptRead::Bad(k) => ObjectRead::Bad(k),
-        OptRead::Got(q, j) => {
-            ObjectRead::Got(AffectedObject::SessionStore { nf: a, shard: q }, j)
-        }
+    let nf = fields::text_at(call, at, Record::SHORT);
+    let at = nf.next;
+    let nf = nf.text;
+    let shard = fields::option_at(call, at, Record::SHORT, Rule::Text);
+    let at = shard.next;
+    let shard = shard.text;
+    ObjectRead {
+        object: AffectedObject::SessionStore {
+            nf: nf,
+            shard: shard,
+        },
+        next: at,
     }
 }
 
 // Kinds 5, 6 and 7: one string.
-fn single_at(call: &[u8], at: usize, kind: u8) -> ObjectRead
-    ensures { λ r. ⌜ (objectOut (now (call .entry)) r ≡ into (singleKind kind) (text shortLimit) (drop at (now (call .entry)))) × objectFits (now (call .entry)) r ⌝ }
+fn single_at(call: &[u8], at: Place, kind: u8) -> ObjectRead
+    ensures { λ r. ⌜ Reads (now (call .entry)) at (into (singleKind kind) (text shortLimit)) (objectValue (now (call .entry)) (r .object)) (r .next) × objectWithin (now (call .entry)) (r .object) ⌝ }
 {
-    let mut i = 0;
-    let a = match fields::text_at(call, at, Record::SHORT) {
-        TextRead::Bad(k) => return ObjectRead::Bad(k),
-        TextRead::Got(q, j) => {
-            i = j;
-            q
-        }
-    };
-    ObjectRead::Got(single_of(kind, a), i)
-}
-
-// Kind 8: two strings and the queue's number.
-fn data_plane_queue_at(call: &[u8], at: usize) -> ObjectRead
-    ensures { λ r. ⌜ (objectOut (now (call .entry)) r ≡ dataPlaneQueue (drop at (now (call .entry)))) × objectFits (now (call .entry)) r ⌝ }
-{
-    let mut i = 0;
-    let a = match fields::text_at(call, at, Record::SHORT) {
-        TextRead::Bad(k) => return ObjectRead::Bad(k),
-        TextRead::Got(q, j) => {
-            i = j;
-            q
-        }
-    };
-    let b = match fields::text_at(call, i, Record::SHORT) {
-        TextRead::Bad(k) => return ObjectRead::Bad(k),
-        TextRead::Got(q, j) => {
-            i = j;
-            q
-        }
-    };
-    match fields::number_at(call, i, 2) {
-        NumRead::Bad(k) => ObjectRead::Bad(k),
-        NumRead::Got(n, j) => {
-            ObjectRead::Got(
-                AffectedObject::DataPlaneQueue {
-                    nf: a,
-                    interface: b,
-                    queue: n as u16,
-                },
-                j,
-            )
-        }
+    let a = fields::text_at(call, at, Record::SHORT);
+    let at = a.next;
+    let a = a.text;
+    ObjectRead {
+        object: single_of(kind, a),
+        next: at,
     }
 }
 
-fn strings_at(call: &[u8], at: usize, kind: u8) -> ObjectRead
-    ensures { λ r. ⌜ (objectOut (now (call .entry)) r ≡ objectOf kind (drop at (now (call .entry)))) × objectFits (now (call .entry)) r ⌝ }
+// Kind 8: two strings and the queue's number.
+fn data_plane_queue_at(call: &[u8], at: Place) -> ObjectRead
+    ensures { λ r. ⌜ Reads (now (call .entry)) at dataPlaneQueue (objectValue (now (call .entry)) (r .object)) (r .next) × objectWithin (now (call .entry)) (r .object) ⌝ }
+{
+    let nf = fields::text_at(call, at, Record::SHORT);
+    let at = nf.next;
+    let nf = nf.text;
+    let interface = fields::text_at(call, at, Record::SHORT);
+    let at = interface.next;
+    let interface = interface.text;
+    let queue = fields::number_at(call, at, 2);
+    let at = queue.next;
+    ObjectRead {
+        object: AffectedObject::DataPlaneQueue {
+            nf: nf,
+            interface: interface,
+            queue: queue.value as u16,
+        },
+        next: at,
+    }
+}
+
+fn strings_at(call: &[u8], at: Place, kind: u8) -> ObjectRead
+    ensures { λ r. ⌜ Reads (now (call .entry)) at (objectOf kind) (objectValue (now (call .entry)) (r .object)) (r .next) × objectWithin (now (call .entry)) (r .object) ⌝ }
 {
     match kind {
         1 => pair_at(call, at, 1),
@@ -169,80 +145,56 @@ fn strings_at(call: &[u8], at: usize, kind: u8) -> ObjectRead
 
 // ---- objects, places and keys
 
-fn object_at(call: &[u8], at: usize) -> ObjectRead
-    ensures { λ r. ⌜ (objectOut (now (call .entry)) r ≡ object (drop at (now (call .entry)))) × objectFits (now (call .entry)) r ⌝ }
+fn object_at(call: &[u8], at: Place) -> ObjectRead
+    ensures { λ r. ⌜ Reads (now (call .entry)) at object (objectValue (now (call .entry)) (r .object)) (r .next) × objectWithin (now (call .entry)) (r .object) ⌝ }
 {
-    let mut i = 0;
-    let kind = match fields::choice_at(call, at, 1, 8) {
-        ByteRead::Bad(k) => return ObjectRead::Bad(k),
-        ByteRead::Got(x, j) => {
-            i = j;
-            x
-        }
-    };
-    strings_at(call, i, kind)
+    let kind = fields::choice_at(call, at, 1, 8);
+    let at = kind.next;
+    strings_at(call, at, kind.value)
 }
 
 // Tenant, slice and region, each optional.
-fn places_at(call: &[u8], at: usize) -> PlacesRead
-    ensures { λ r. ⌜ (placesOut (now (call .entry)) r ≡ places (drop at (now (call .entry)))) × placesFits (now (call .entry)) r ⌝ }
+fn places_at(call: &[u8], at: Place) -> PlacesRead
+    ensures { λ r. ⌜ Reads (now (call .entry)) at places (placesValue (now (call .entry)) (r .places)) (r .next) × PlacesWithin (now (call .entry)) (r .places) ⌝ }
 {
-    let mut i = 0;
-    let tenant = match fields::option_at(call, at, Record::SHORT, Rule::Text) {
-        OptRead::Bad(k) => return PlacesRead::Bad(k),
-        OptRead::Got(q, j) => {
-            i = j;
-            q
-        }
-    };
-    let slice = match fields::option_at(call, i, Record::SHORT, Rule::Text) {
-        OptRead::Bad(k) => return PlacesRead::Bad(k),
-        OptRead::Got(q, j) => {
-            i = j;
-            q
-        }
-    };
-    match fields::option_at(call, i, Record::REGION, Rule::Text) {
-        OptRead::Bad(k) => PlacesRead::Bad(k),
-        OptRead::Got(q, j) => PlacesRead::Got(
-            Places {
-                tenant: tenant,
-                slice: slice,
-                region: q,
-            },
-            j,
-        ),
+    let tenant = fields::option_at(call, at, Record::SHORT, Rule::Text);
+    let at = tenant.next;
+    let tenant = tenant.text;
+    let slice = fields::option_at(call, at, Record::SHORT, Rule::Text);
+    let at = slice.next;
+    let slice = slice.text;
+    let region = fields::option_at(call, at, Record::REGION, Rule::Text);
+    let at = region.next;
+    let region = region.text;
+    PlacesRead {
+        places: Places {
+            tenant: tenant,
+            slice: slice,
+            region: region,
+        },
+        next: at,
     }
 }
 
 // What a raise and a clear share: the cause, the object and its places.
-pub fn key_at(call: &[u8], at: usize) -> KeyRead
-    ensures { λ r. ⌜ (keyOut (now (call .entry)) r ≡ key (drop at (now (call .entry)))) × keyFits (now (call .entry)) r ⌝ }
+pub fn key_at(call: &[u8], at: Place) -> KeyRead
+    ensures { λ r. ⌜ Reads (now (call .entry)) at key (keyValue (now (call .entry)) (r .key)) (r .next) × KeyWithin (now (call .entry)) (r .key) ⌝ }
 {
-    let mut i = 0;
-    let cause = match fields::cause_at(call, at) {
-        CauseRead::Bad(k) => return KeyRead::Bad(k),
-        CauseRead::Got(q, j) => {
-            i = j;
-            q
-        }
-    };
-    let object = match object_at(call, i) {
-        ObjectRead::Bad(k) => return KeyRead::Bad(k),
-        ObjectRead::Got(q, j) => {
-            i = j;
-            q
-        }
-    };
-    match places_at(call, i) {
-        PlacesRead::Bad(k) => KeyRead::Bad(k),
-        PlacesRead::Got(q, j) => KeyRead::Got(
-            KeyFields {
-                cause: cause,
-                object: object,
-                places: q,
-            },
-            j,
-        ),
+    let cause = fields::cause_at(call, at);
+    let at = cause.next;
+    let cause = cause.cause;
+    let object = object_at(call, at);
+    let at = object.next;
+    let object = object.object;
+    let places = places_at(call, at);
+    let at = places.next;
+    let places = places.places;
+    KeyRead {
+        key: KeyFields {
+            cause: cause,
+            object: object,
+            places: places,
+        },
+        next: at,
     }
 }

@@ -1,18 +1,14 @@
 // The fields of an acknowledgement or a suppression with policy.
-use fields::ByteRead;
-use fields::NumRead;
-use fields::OptRead;
+use fields::Place;
 use fields::Rule;
-use fields::TextRead;
 use model::OptSpan;
 use model::Record;
 use model::Span;
-ghost use mathlib.Core.Path.{_≡_};
-ghost use lib.ListN.{drop};
-ghost use Rattle.definition.specs.Limits.{shortLimit};
-ghost use Rattle.definition.specs.Reader.{into, text};
-ghost use Rattle.definition.specs.Parse.{scopeOf, scope, actor, request, verdict, policyFields};
-ghost use Rattle.policy.specs.Answers.{namedScope, scopeOut, scopeFits, actorOut, actorFits, requestOut, requestFits, verdictOut, verdictFits, policyOut, policyFits};
+ghost use Rattle.definition.specs.Limits.{regionLimit};
+ghost use Rattle.definition.specs.Parse.{scope, actor, request, verdict, policyFields};
+ghost use Rattle.fields.specs.Place.{Reads};
+ghost use Rattle.model.specs.Meaning.{within};
+ghost use Rattle.policy.specs.Meaning.{scopeValue, actorValue, requestValue, verdictValue, policyValue, scopeWithin, ActorWithin, RequestWithin, PolicyWithin};
 
 // What is asked for: one alarm by its id, the alarms of a tenant, or all.
 pub enum Scope {
@@ -49,209 +45,151 @@ pub struct Policy {
     pub verdict: Verdict,
 }
 
-// What a reader answers: a value and the place after it, or the number of a refusal.
-enum ScopeRead {
-    Got(Scope, usize),
-    Bad(u8),
+// What a reader answers: a value, and where the reading stands after it.
+struct ScopeRead {
+    scope: Scope,
+    next: Place,
 }
 
-enum ActorRead {
-    Got(Actor, usize),
-    Bad(u8),
+struct ActorRead {
+    actor: Actor,
+    next: Place,
 }
 
-enum RequestRead {
-    Got(Request, usize),
-    Bad(u8),
+struct RequestRead {
+    request: Request,
+    next: Place,
 }
 
-enum VerdictRead {
-    Got(Verdict, usize),
-    Bad(u8),
+struct VerdictRead {
+    verdict: Verdict,
+    next: Place,
 }
 
-pub enum PolicyRead {
-    Got(Policy, usize),
-    Bad(u8),
+pub struct PolicyRead {
+    pub policy: Policy,
+    pub next: Place,
 }
 
-// The string of the scopes 0 and 1, after the scope's byte.
-fn named_scope_at(call: &[u8], at: usize, kind: u8) -> ScopeRead
-    ensures { λ r. ⌜ (scopeOut (now (call .entry)) r ≡ into (namedScope kind) (text shortLimit) (drop at (now (call .entry)))) × scopeFits (now (call .entry)) r ⌝ }
+// A kind, and the string of the kinds 0 and 1.
+fn scope_at(call: &[u8], at: Place) -> ScopeRead
+    ensures { λ r. ⌜ Reads (now (call .entry)) at scope (scopeValue (now (call .entry)) (r .scope)) (r .next) × scopeWithin (now (call .entry)) (r .scope) ⌝ }
 {
-    let mut i = 0;
-    let a = match fields::text_at(call, at, Record::SHORT) {
-        TextRead::Bad(k) => return ScopeRead::Bad(k),
-        TextRead::Got(q, j) => {
-            i = j;
-            q
-        }
-    };
+    let kind = fields::choice_at(call, at, 0, 2);
+    let at = kind.next;
+    let kind = kind.value;
     match kind {
-        0 => ScopeRead::Got(Scope::Alarm(a), i),
-        _ => ScopeRead::Got(Scope::Tenant(a), i),
+        0 => {
+            let id = fields::text_at(call, at, Record::SHORT);
+            let at = id.next;
+            let id = id.text;
+            ScopeRead {
+                scope: Scope::Alarm(id),
+                next: at,
+            }
+        }
+        1 => {
+            let tenant = fields::text_at(call, at, Record::SHORT);
+            let at = tenant.next;
+            let tenant = tenant.text;
+            ScopeRead {
+                scope: Scope::Tenant(tenant),
+                next: at,
+            }
+        }
+        _ => ScopeRead {
+            scope: Scope::Global,
+            next: at,
+        },
     }
 }
 
-fn scope_of_at(call: &[u8], at: usize, kind: u8) -> ScopeRead
-    ensures { λ r. ⌜ (scopeOut (now (call .entry)) r ≡ scopeOf kind (drop at (now (call .entry)))) × scopeFits (now (call .entry)) r ⌝ }
+fn actor_at(call: &[u8], at: Place) -> ActorRead
+    ensures { λ r. ⌜ Reads (now (call .entry)) at actor (actorValue (now (call .entry)) (r .actor)) (r .next) × ActorWithin (now (call .entry)) (r .actor) ⌝ }
 {
-    match kind {
-        0 => named_scope_at(call, at, 0),
-        1 => named_scope_at(call, at, 1),
-        _ => ScopeRead::Got(Scope::Global, at),
+    let time = fields::number_at(call, at, 8);
+    let at = time.next;
+    let id = fields::text_at(call, at, Record::SHORT);
+    let at = id.next;
+    let id = id.text;
+    let principal = fields::text_at(call, at, Record::SHORT);
+    let at = principal.next;
+    let principal = principal.text;
+    let tenant = fields::option_at(call, at, Record::SHORT, Rule::Text);
+    let at = tenant.next;
+    let tenant = tenant.text;
+    ActorRead {
+        actor: Actor {
+            time: time.value,
+            id: id,
+            principal: principal,
+            tenant: tenant,
+        },
+        next: at,
     }
 }
 
-fn scope_at(call: &[u8], at: usize) -> ScopeRead
-    ensures { λ r. ⌜ (scopeOut (now (call .entry)) r ≡ scope (drop at (now (call .entry)))) × scopeFits (now (call .entry)) r ⌝ }
+fn request_at(call: &[u8], at: Place) -> RequestRead
+    ensures { λ r. ⌜ Reads (now (call .entry)) at request (requestValue (now (call .entry)) (r .request)) (r .next) × RequestWithin (now (call .entry)) (r .request) ⌝ }
 {
-    let mut i = 0;
-    let kind = match fields::choice_at(call, at, 0, 2) {
-        ByteRead::Bad(k) => return ScopeRead::Bad(k),
-        ByteRead::Got(x, j) => {
-            i = j;
-            x
-        }
-    };
-    scope_of_at(call, i, kind)
-}
-
-fn actor_at(call: &[u8], at: usize) -> ActorRead
-    ensures { λ r. ⌜ (actorOut (now (call .entry)) r ≡ actor (drop at (now (call .entry)))) × actorFits (now (call .entry)) r ⌝ }
-{
-    let mut i = 0;
-    let time = match fields::number_at(call, at, 8) {
-        NumRead::Bad(k) => return ActorRead::Bad(k),
-        NumRead::Got(x, j) => {
-            i = j;
-            x
-        }
-    };
-    let id = match fields::text_at(call, i, Record::SHORT) {
-        TextRead::Bad(k) => return ActorRead::Bad(k),
-        TextRead::Got(q, j) => {
-            i = j;
-            q
-        }
-    };
-    let principal = match fields::text_at(call, i, Record::SHORT) {
-        TextRead::Bad(k) => return ActorRead::Bad(k),
-        TextRead::Got(q, j) => {
-            i = j;
-            q
-        }
-    };
-    match fields::option_at(call, i, Record::SHORT, Rule::Text) {
-        OptRead::Bad(k) => ActorRead::Bad(k),
-        OptRead::Got(tenant, j) => {
-            ActorRead::Got(
-                Actor {
-                    time: time,
-                    id: id,
-                    principal: principal,
-                    tenant: tenant,
-                },
-                j,
-            )
-        }
+    let reason = fields::text_at(call, at, Record::TEXT);
+    let at = reason.next;
+    let reason = reason.text;
+    let scope = scope_at(call, at);
+    let at = scope.next;
+    let scope = scope.scope;
+    let correlation = fields::option_at(call, at, Record::SHORT, Rule::Text);
+    let at = correlation.next;
+    let correlation = correlation.text;
+    RequestRead {
+        request: Request {
+            reason: reason,
+            scope: scope,
+            correlation: correlation,
+        },
+        next: at,
     }
 }
 
-fn request_at(call: &[u8], at: usize) -> RequestRead
-    ensures { λ r. ⌜ (requestOut (now (call .entry)) r ≡ request (drop at (now (call .entry)))) × requestFits (now (call .entry)) r ⌝ }
+fn verdict_at(call: &[u8], at: Place) -> VerdictRead
+    ensures { λ r. ⌜ Reads (now (call .entry)) at verdict (verdictValue (now (call .entry)) (r .verdict)) (r .next) × within (now (call .entry)) regionLimit (r .verdict .denial) ⌝ }
 {
-    let mut i = 0;
-    let reason = match fields::text_at(call, at, Record::TEXT) {
-        TextRead::Bad(k) => return RequestRead::Bad(k),
-        TextRead::Got(q, j) => {
-            i = j;
-            q
-        }
-    };
-    let scope = match scope_at(call, i) {
-        ScopeRead::Bad(k) => return RequestRead::Bad(k),
-        ScopeRead::Got(q, j) => {
-            i = j;
-            q
-        }
-    };
-    match fields::option_at(call, i, Record::SHORT, Rule::Text) {
-        OptRead::Bad(k) => RequestRead::Bad(k),
-        OptRead::Got(correlation, j) => {
-            RequestRead::Got(
-                Request {
-                    reason: reason,
-                    scope: scope,
-                    correlation: correlation,
-                },
-                j,
-            )
-        }
-    }
-}
-
-fn verdict_at(call: &[u8], at: usize) -> VerdictRead
-    ensures { λ r. ⌜ (verdictOut (now (call .entry)) r ≡ verdict (drop at (now (call .entry)))) × verdictFits (now (call .entry)) r ⌝ }
-{
-    let mut i = 0;
-    let critical = match fields::choice_at(call, at, 0, 1) {
-        ByteRead::Bad(k) => return VerdictRead::Bad(k),
-        ByteRead::Got(x, j) => {
-            i = j;
-            x
-        }
-    };
-    let authorised = match fields::choice_at(call, i, 0, 1) {
-        ByteRead::Bad(k) => return VerdictRead::Bad(k),
-        ByteRead::Got(x, j) => {
-            i = j;
-            x
-        }
-    };
-    match fields::text_at(call, i, Record::REGION) {
-        TextRead::Bad(k) => VerdictRead::Bad(k),
-        TextRead::Got(denial, j) => {
-            VerdictRead::Got(
-                Verdict {
-                    critical_allowed: critical,
-                    authorised: authorised,
-                    denial: denial,
-                },
-                j,
-            )
-        }
+    let critical = fields::choice_at(call, at, 0, 1);
+    let at = critical.next;
+    let authorised = fields::choice_at(call, at, 0, 1);
+    let at = authorised.next;
+    let denial = fields::text_at(call, at, Record::REGION);
+    let at = denial.next;
+    let denial = denial.text;
+    VerdictRead {
+        verdict: Verdict {
+            critical_allowed: critical.value,
+            authorised: authorised.value,
+            denial: denial,
+        },
+        next: at,
     }
 }
 
 // The fields of operations 5 and 6 at a place.
-pub fn policy_at(call: &[u8], at: usize) -> PolicyRead
-    ensures { λ r. ⌜ (policyOut (now (call .entry)) r ≡ policyFields (drop at (now (call .entry)))) × policyFits (now (call .entry)) r ⌝ }
+pub fn policy_at(call: &[u8], at: Place) -> PolicyRead
+    ensures { λ r. ⌜ Reads (now (call .entry)) at policyFields (policyValue (now (call .entry)) (r .policy)) (r .next) × PolicyWithin (now (call .entry)) (r .policy) ⌝ }
 {
-    let mut i = 0;
-    let a = match actor_at(call, at) {
-        ActorRead::Bad(k) => return PolicyRead::Bad(k),
-        ActorRead::Got(q, j) => {
-            i = j;
-            q
-        }
-    };
-    let r = match request_at(call, i) {
-        RequestRead::Bad(k) => return PolicyRead::Bad(k),
-        RequestRead::Got(q, j) => {
-            i = j;
-            q
-        }
-    };
-    match verdict_at(call, i) {
-        VerdictRead::Bad(k) => PolicyRead::Bad(k),
-        VerdictRead::Got(v, j) => PolicyRead::Got(
-            Policy {
-                actor: a,
-                request: r,
-                verdict: v,
-            },
-            j,
-        ),
+    let actor = actor_at(call, at);
+    let at = actor.next;
+    let actor = actor.actor;
+    let request = request_at(call, at);
+    let at = request.next;
+    let request = request.request;
+    let verdict = verdict_at(call, at);
+    let at = verdict.next;
+    let verdict = verdict.verdict;
+    PolicyRead {
+        policy: Policy {
+            actor: actor,
+            request: request,
+            verdict: verdict,
+        },
+        next: at,
     }
 }

@@ -1,8 +1,12 @@
 -- What the structs of a raise and a clear mean: document 01's values.
+use mathlib.Core.Bool.{Bool, true}
+use lib.Dec.{ltb}
 use Rattle.octets.specs.Bytes.{Bytes}
 use Rattle.definition.specs.Limits.{shortLimit, textLimit, detailsLimit}
 use Rattle.definition.specs.Value.{HeadValue, RaiseValue, ClearValue}
 use Rattle.model.specs.Meaning.{part, optPart, keyValue, within, optWithin, KeyWithin}
+use Rattle.model.specs.declared.OptSpan.{OptSpan}
+use Rattle.model.specs.declared.OptSpan.the-variants.{Absent, Present}
 use Rattle.raise.specs.declared.Head.{Head}
 use Rattle.raise.specs.declared.Raise.{Raise}
 use Rattle.raise.specs.declared.Clear.{Clear}
@@ -18,6 +22,11 @@ raiseValue call r =
 
 abbrev pub clearValue : Bytes → Clear → ClearValue
 clearValue call r = record { time = r .time; type = part call (r .«alarm_type»); key = keyValue call (r .key) }
+
+-- a region that is there has a byte
+abbrev pub namedSpan : OptSpan → Bool
+namedSpan Absent = true
+namedSpan (Present p) = ltb 0 (p .len)
 
 -- ---- every part lies within the call and its limit
 

@@ -1,20 +1,15 @@
 // A raise and a clear: their fields, read to numbers, and to places and lengths of strings.
-use fields::ByteRead;
-use fields::NumRead;
-use fields::OptRead;
+use fields::Place;
 use fields::Rule;
-use fields::TextRead;
 use model::KeyFields;
 use model::OptSpan;
 use model::Record;
 use model::Span;
-use object::KeyRead;
 ghost use mathlib.Core.Path.{_≡_};
-ghost use lib.ListN.{drop};
 ghost use Rattle.definition.specs.Parse.{head, body, raiseFields, clearFields};
 ghost use Rattle.model.specs.Meaning.{keyValue, KeyWithin};
-ghost use Rattle.raise.specs.Meaning.{headValue, HeadWithin};
-ghost use Rattle.raise.specs.Answers.{emptyRegion, headOut, headFits, raiseOut, raiseFits, clearOut, clearFits};
+ghost use Rattle.fields.specs.Place.{Reads};
+ghost use Rattle.raise.specs.Meaning.{headValue, raiseValue, clearValue, namedSpan, HeadWithin, RaiseWithin, ClearWithin};
 
 // How a raise begins.
 pub struct Head {
@@ -37,163 +32,116 @@ pub struct Clear {
     pub key: KeyFields,
 }
 
-// What a reader answers: a value and the place after it, or the number of a refusal.
-enum HeadRead {
-    Got(Head, usize),
-    Bad(u8),
+// What a reader answers: a value, and where the reading stands after it.
+struct HeadRead {
+    head: Head,
+    next: Place,
 }
 
-pub enum RaiseRead {
-    Got(Raise, usize),
-    Bad(u8),
+pub struct RaiseRead {
+    pub raise: Raise,
+    pub next: Place,
 }
 
-pub enum ClearRead {
-    Got(Clear, usize),
-    Bad(u8),
+pub struct ClearRead {
+    pub clear: Clear,
+    pub next: Place,
 }
 
 // ---- raise
 
-fn head_at(call: &[u8], at: usize) -> HeadRead
-    ensures { λ r. ⌜ (headOut (now (call .entry)) r ≡ head (drop at (now (call .entry)))) × headFits (now (call .entry)) r ⌝ }
+fn head_at(call: &[u8], at: Place) -> HeadRead
+    ensures { λ r. ⌜ Reads (now (call .entry)) at head (headValue (now (call .entry)) (r .head)) (r .next) × HeadWithin (now (call .entry)) (r .head) ⌝ }
 {
-    let mut i = 0;
-    let time = match fields::number_at(call, at, 8) {
-        NumRead::Bad(k) => return HeadRead::Bad(k),
-        NumRead::Got(x, j) => {
-            i = j;
-            x
-        }
-    };
-    let id = match fields::text_at(call, i, Record::SHORT) {
-        TextRead::Bad(k) => return HeadRead::Bad(k),
-        TextRead::Got(q, j) => {
-            i = j;
-            q
-        }
-    };
-    let alarm_type = match fields::text_at(call, i, Record::SHORT) {
-        TextRead::Bad(k) => return HeadRead::Bad(k),
-        TextRead::Got(q, j) => {
-            i = j;
-            q
-        }
-    };
-    match fields::choice_at(call, i, 0, 5) {
-        ByteRead::Bad(k) => HeadRead::Bad(k),
-        ByteRead::Got(severity, j) => {
-            HeadRead::Got(
-                Head {
-                    time: time,
-                    id: id,
-                    alarm_type: alarm_type,
-                    severity: severity,
-                },
-                j,
-            )
-        }
+    let time = fields::number_at(call, at, 8);
+    let at = time.next;
+    let id = fields::text_at(call, at, Record::SHORT);
+    let at = id.next;
+    let id = id.text;
+    let alarm_type = fields::text_at(call, at, Record::SHORT);
+    let at = alarm_type.next;
+    let alarm_type = alarm_type.text;
+    let severity = fields::choice_at(call, at, 0, 5);
+    let at = severity.next;
+    HeadRead {
+        head: Head {
+            time: time.value,
+            id: id,
+            alarm_type: alarm_type,
+            severity: severity.value,
+        },
+        next: at,
     }
 }
 
-// Whether a region is there and is empty.
-fn is_empty(region: OptSpan) -> bool
-    ensures { λ r. ⌜ r ≡ emptyRegion region ⌝ }
+// Whether a region has a byte, where there is one.
+fn is_named(region: OptSpan) -> bool
+    ensures { λ r. ⌜ r ≡ namedSpan region ⌝ }
 {
     match region {
-        OptSpan::Absent => false,
-        OptSpan::Present(p) => p.len == 0,
+        OptSpan::Absent => true,
+        OptSpan::Present(p) => 0 < p.len,
     }
 }
 
 // The text and the details, after the key.
-fn body_at(call: &[u8], at: usize, h: Head, y: KeyFields) -> RaiseRead
-    requires { ⌜ HeadWithin (now call) h × KeyWithin (now call) y ⌝ }
-    ensures { λ r. ⌜ (raiseOut (now (call .entry)) r ≡ body (headValue (now (call .entry)) h) (keyValue (now (call .entry)) y) (drop at (now (call .entry)))) × raiseFits (now (call .entry)) r ⌝ }
+fn body_at(call: &[u8], at: Place, head: Head, key: KeyFields) -> RaiseRead
+    requires { ⌜ HeadWithin (now call) head × KeyWithin (now call) key ⌝ }
+    ensures { λ r. ⌜ Reads (now (call .entry)) at (body (headValue (now (call .entry)) head) (keyValue (now (call .entry)) key)) (raiseValue (now (call .entry)) (r .raise)) (r .next) × RaiseWithin (now (call .entry)) (r .raise) ⌝ }
 {
-    let mut i = 0;
-    let text = match fields::text_at(call, at, Record::TEXT) {
-        TextRead::Bad(k) => return RaiseRead::Bad(k),
-        TextRead::Got(q, j) => {
-            i = j;
-            q
-        }
-    };
-    match fields::option_at(call, i, Record::DETAILS, Rule::Blob) {
-        OptRead::Bad(k) => RaiseRead::Bad(k),
-        OptRead::Got(details, j) => {
-            RaiseRead::Got(
-                Raise {
-                    head: h,
-                    key: y,
-                    text: text,
-                    details: details,
-                },
-                j,
-            )
-        }
+    let text = fields::text_at(call, at, Record::TEXT);
+    let at = text.next;
+    let text = text.text;
+    let details = fields::option_at(call, at, Record::DETAILS, Rule::Blob);
+    let at = details.next;
+    let details = details.text;
+    RaiseRead {
+        raise: Raise {
+            head: head,
+            key: key,
+            text: text,
+            details: details,
+        },
+        next: at,
     }
 }
 
 // The fields of a raise.
-pub fn raise_at(call: &[u8], at: usize) -> RaiseRead
-    ensures { λ r. ⌜ (raiseOut (now (call .entry)) r ≡ raiseFields (drop at (now (call .entry)))) × raiseFits (now (call .entry)) r ⌝ }
+pub fn raise_at(call: &[u8], at: Place) -> RaiseRead
+    ensures { λ r. ⌜ Reads (now (call .entry)) at raiseFields (raiseValue (now (call .entry)) (r .raise)) (r .next) × RaiseWithin (now (call .entry)) (r .raise) ⌝ }
 {
-    let mut i = 0;
-    let h = match head_at(call, at) {
-        HeadRead::Bad(k) => return RaiseRead::Bad(k),
-        HeadRead::Got(q, j) => {
-            i = j;
-            q
-        }
-    };
-    let y = match object::key_at(call, i) {
-        KeyRead::Bad(k) => return RaiseRead::Bad(k),
-        KeyRead::Got(q, j) => {
-            i = j;
-            q
-        }
-    };
-    let p = y.places;
-    let region = p.region;
-    if is_empty(region) {
-        return RaiseRead::Bad(29);
-    }
-    body_at(call, i, h, y)
+    let head = head_at(call, at);
+    let at = head.next;
+    let head = head.head;
+    let key = object::key_at(call, at);
+    let at = key.next;
+    let key = key.key;
+    let places = key.places;
+    let region = places.region;
+    let at = fields::refuse_unless(at, is_named(region), 29);
+    body_at(call, at, head, key)
 }
 
 // ---- clear
 
 // The fields of a clear.
-pub fn clear_at(call: &[u8], at: usize) -> ClearRead
-    ensures { λ r. ⌜ (clearOut (now (call .entry)) r ≡ clearFields (drop at (now (call .entry)))) × clearFits (now (call .entry)) r ⌝ }
+pub fn clear_at(call: &[u8], at: Place) -> ClearRead
+    ensures { λ r. ⌜ Reads (now (call .entry)) at clearFields (clearValue (now (call .entry)) (r .clear)) (r .next) × ClearWithin (now (call .entry)) (r .clear) ⌝ }
 {
-    let mut i = 0;
-    let time = match fields::number_at(call, at, 8) {
-        NumRead::Bad(k) => return ClearRead::Bad(k),
-        NumRead::Got(x, j) => {
-            i = j;
-            x
-        }
-    };
-    let alarm_type = match fields::text_at(call, i, Record::SHORT) {
-        TextRead::Bad(k) => return ClearRead::Bad(k),
-        TextRead::Got(q, j) => {
-            i = j;
-            q
-        }
-    };
-    match object::key_at(call, i) {
-        KeyRead::Bad(k) => ClearRead::Bad(k),
-        KeyRead::Got(key, j) => {
-            ClearRead::Got(
-                Clear {
-                    time: time,
-                    alarm_type: alarm_type,
-                    key: key,
-                },
-                j,
-            )
-        }
+    let time = fields::number_at(call, at, 8);
+    let at = time.next;
+    let alarm_type = fields::text_at(call, at, Record::SHORT);
+    let at = alarm_type.next;
+    let alarm_type = alarm_type.text;
+    let key = object::key_at(call, at);
+    let at = key.next;
+    let key = key.key;
+    ClearRead {
+        clear: Clear {
+            time: time.value,
+            alarm_type: alarm_type,
+            key: key,
+        },
+        next: at,
     }
 }

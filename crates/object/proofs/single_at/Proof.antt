@@ -1,34 +1,16 @@
 -- `single_at` meets its contract: a string, and then the kind.
-use Rattle.definition.specs.Limits.{shortLimit}
-use Rattle.definition.specs.Reader.{_>>=_, into}
-use Rattle.fields.specs.Answers.{textOut, textFits}
-use Rattle.fields.specs.ReaderLaws.{read}
+use Rattle.definition.specs.Reader.{into}
+use Rattle.fields.specs.PlaceLaws.{done, step}
 use borrow.Author.Needs.{needs}
 use Rattle.object.proofs.single_at.Statement.{statement}
 use Rattle.object.proofs.single_at.Tie as tie
 
 returns : tie.Need-returns
-unfolding into _>>=_
+unfolding into
 returns c =
-    let s = c .before .before .before .before .before .args .call .now in
-    let a = read (textOut s) (textFits s shortLimit) (c .before .before .before .text-at .ensures) (c .before .k .given .1) in
-    (rw (a .0), tt)
-
-returns-2 : tie.Need-returns-2
-unfolding into _>>=_
-returns-2 c =
-    let c1 = c .before in
-    let s = c1 .before .before .before .before .before .args .call .now in
-    let a = read (textOut s) (textFits s shortLimit) (c1 .before .before .before .text-at .ensures) (c1 .before .q .given .1) in
-    (rw (a .0, c .single-of .ensures s .value), c .single-of .ensures s .fits (a .1 .0))
+    let a = c .before .before .text-at .ensures in
+    let o = c .single-of .ensures (c .before .before .before .before .args .call .now) in
+    (rw (o .value) (step _ (a .0) done), o .fits (a .1))
 
 pub single-at-spec : {M : Type 1} → statement M
-single-at-spec =
-    tie.close
-    (tie.spec
-    (λ c κs. search needs)
-    (λ c. search needs)
-    returns
-    (λ c. search needs)
-    (λ c κs. search needs)
-    returns-2)
+single-at-spec = tie.close (tie.spec (λ c κs. search needs) (λ c κs. search needs) returns)

@@ -1,84 +1,18 @@
--- `actor_at` meets its contract: time, id, principal and tenant.
-use Rattle.definition.specs.Limits.{shortLimit}
-use Rattle.definition.specs.Reader.{_>>=_}
+-- Time, id, principal and tenant.
 use Rattle.definition.specs.Parse.{actor}
-use Rattle.fields.specs.Answers.{numOut, numFits, textOut, textFits, optOut, optFits}
-use Rattle.fields.specs.ReaderLaws.{read}
+use Rattle.fields.specs.PlaceLaws.{done, step}
 use borrow.Author.Needs.{needs}
 use Rattle.policy.proofs.actor_at.Statement.{statement}
 use Rattle.policy.proofs.actor_at.Tie as tie
 
 returns : tie.Need-returns
-unfolding actor _>>=_
+unfolding actor
 returns c =
-    let s = c .before .before .before .before .before .args .call .now in
-    let time = read (numOut s) (numFits s 8) (c .before .before .before .number-at .ensures) (c .before .k .given .1) in
-    (rw (time .0), tt)
-
-returns-2 : tie.Need-returns-2
-unfolding actor _>>=_
-returns-2 c =
-    let c1 = c .before .before .before .before in
-    let s = c1 .before .before .before .before .before .args .call .now in
-    let time = read (numOut s) (numFits s 8) (c1 .before .before .before .number-at .ensures) (c1 .before .x .given .1) in
-    let id = read (textOut s) (textFits s shortLimit) (c .before .before .before .text-at .ensures) (c .before .k2 .given .1) in
-    (rw (time .0, id .0), tt)
-
-returns-3 : tie.Need-returns-3
-unfolding actor _>>=_
-returns-3 c =
-    let c2 = c .before .before .before .before in
-    let c1 = c2 .before .before .before .before in
-    let s = c1 .before .before .before .before .before .args .call .now in
-    let time = read (numOut s) (numFits s 8) (c1 .before .before .before .number-at .ensures) (c1 .before .x .given .1) in
-    let id = read (textOut s) (textFits s shortLimit) (c2 .before .before .before .text-at .ensures) (c2 .before .q .given .1) in
-    let principal = read (textOut s) (textFits s shortLimit) (c .before .before .before .text-at2 .ensures) (c .before .k3 .given .1) in
-    (rw (time .0, id .0, principal .0), tt)
-
-returns-4 : tie.Need-returns-4
-unfolding actor _>>=_
-returns-4 c =
-    let c3 = c .before .before .before .before in
-    let c2 = c3 .before .before .before .before in
-    let c1 = c2 .before .before .before .before in
-    let s = c1 .before .before .before .before .before .args .call .now in
-    let time = read (numOut s) (numFits s 8) (c1 .before .before .before .number-at .ensures) (c1 .before .x .given .1) in
-    let id = read (textOut s) (textFits s shortLimit) (c2 .before .before .before .text-at .ensures) (c2 .before .q .given .1) in
-    let principal = read (textOut s) (textFits s shortLimit) (c3 .before .before .before .text-at2 .ensures) (c3 .before .q2 .given .1) in
-    let tenant = read (optOut s) (optFits s shortLimit) (c .before .before .before .option-at .ensures) (c .before .k4 .given .1) in
-    (rw (time .0, id .0, principal .0, tenant .0), tt)
-
-returns-5 : tie.Need-returns-5
-unfolding actor _>>=_
-returns-5 c =
-    let c3 = c .before .before .before .before in
-    let c2 = c3 .before .before .before .before in
-    let c1 = c2 .before .before .before .before in
-    let s = c1 .before .before .before .before .before .args .call .now in
-    let time = read (numOut s) (numFits s 8) (c1 .before .before .before .number-at .ensures) (c1 .before .x .given .1) in
-    let id = read (textOut s) (textFits s shortLimit) (c2 .before .before .before .text-at .ensures) (c2 .before .q .given .1) in
-    let principal = read (textOut s) (textFits s shortLimit) (c3 .before .before .before .text-at2 .ensures) (c3 .before .q2 .given .1) in
-    let tenant = read (optOut s) (optFits s shortLimit) (c .before .before .before .option-at .ensures) (c .before .tenant .given .1) in
-    (rw (time .0, id .0, principal .0, tenant .0), record { id = id .1 .0; principal = principal .1 .0; tenant = tenant .1 .0 })
+    let tenant = c .option-at .ensures in
+    let principal = c .before .before .text-at2 .ensures in
+    let id = c .before .before .before .before .text-at .ensures in
+    let time = c .before .before .before .before .before .number-at .ensures in
+    (step _ (time .0) (step _ (id .0) (step _ (principal .0) (step _ (tenant .0) done))), record { id = id .1; principal = principal .1; tenant = tenant .1 })
 
 pub actor-at-spec : {M : Type 1} → statement M
-actor-at-spec =
-    tie.close
-    (tie.spec
-    (λ c κs. search needs)
-    (λ c. search needs)
-    returns
-    (λ c. search needs)
-    (λ c κs. search needs)
-    (λ c. search needs)
-    returns-2
-    (λ c. search needs)
-    (λ c κs. search needs)
-    (λ c. search needs)
-    returns-3
-    (λ c. search needs)
-    (λ c κs. search needs)
-    (λ c. search needs)
-    (λ c. search needs)
-    returns-4
-    returns-5)
+actor-at-spec = tie.close (tie.spec (λ c κs. search needs) (λ c κs. search needs) (λ c κs. search needs) (λ c κs. search needs) returns)

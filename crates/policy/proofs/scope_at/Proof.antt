@@ -1,34 +1,31 @@
--- `scope_at` meets its contract: the kind, and then its string.
-use Rattle.definition.specs.Reader.{_>>=_}
-use Rattle.definition.specs.Parse.{scope}
-use Rattle.fields.specs.Answers.{byteOut, byteFits}
-use Rattle.fields.specs.ReaderLaws.{read}
+-- The kind, and what it says.
+use Rattle.definition.specs.Parse.{scopeOf, scope}
+use Rattle.definition.specs.Reader.{into}
+use Rattle.fields.specs.PlaceLaws.{done, step}
+use borrow.Author.Tests.{ne-eqb}
 use borrow.Author.Needs.{needs}
 use Rattle.policy.proofs.scope_at.Statement.{statement}
 use Rattle.policy.proofs.scope_at.Tie as tie
 
 returns : tie.Need-returns
-unfolding scope _>>=_
+unfolding scope scopeOf into
 returns c =
-    let s = c .before .before .before .before .before .args .call .now in
-    let kind = read (byteOut s) (byteFits s 0 2) (c .before .before .before .choice-at .ensures) (c .before .k .given .1) in
-    (rw (kind .0), tt)
+    let kind = c .before .before .before .choice-at .ensures in
+    let id = c .before .text-at .ensures in
+    (step _ kind (rw (c .before .before .match .keys1) (step _ (id .0) done)), id .1)
 
 returns-2 : tie.Need-returns-2
-unfolding scope _>>=_
+unfolding scope scopeOf into
 returns-2 c =
-    let c1 = c .before in
-    let s = c1 .before .before .before .before .before .args .call .now in
-    let kind = read (byteOut s) (byteFits s 0 2) (c1 .before .before .before .choice-at .ensures) (c1 .before .x .given .1) in
-    (rw (kind .0) (c .scope-of-at .ensures .0), c .scope-of-at .ensures .1)
+    let kind = c .before .before .before .choice-at .ensures in
+    let tenant = c .before .text-at2 .ensures in
+    (step _ kind (rw (c .before .before .match .keys2) (step _ (tenant .0) done)), tenant .1)
+
+returns-3 : tie.Need-returns-3
+unfolding scope scopeOf
+returns-3 c =
+    let kind = c .before .choice-at .ensures in
+    (step _ kind (rw (ne-eqb _ 0 (c .match .rest .0 .1), ne-eqb _ 1 (c .match .rest .1)) done), tt)
 
 pub scope-at-spec : {M : Type 1} → statement M
-scope-at-spec =
-    tie.close
-    (tie.spec
-    (λ c κs. search needs)
-    (λ c. search needs)
-    returns
-    (λ c. search needs)
-    (λ c κs. search needs)
-    returns-2)
+scope-at-spec = tie.close (tie.spec (λ c κs. search needs) (λ c κs. search needs) (λ c κs. search needs) returns returns-2 returns-3)

@@ -1,0 +1,41 @@
+-- What it means to read on from a place. The first fault wins: after a fault nothing is read, and it stays.
+use Prim.Native.Nat.{ℕ}
+use mathlib.Core.Path.{_≡_}
+use mathlib.Core.Bool.{Bool, cond}
+use lib.ListN.{drop}
+use Rattle.octets.specs.Bytes.{Bytes}
+use Rattle.definition.specs.Reader.{Out, got, bad, Reader}
+use Rattle.fields.specs.declared.Place.{Place}
+use Rattle.fields.specs.declared.Place.the-variants.{At, Fault}
+use Rattle.fields.specs.declared.TextRead.{TextRead}
+
+module _ {A : Type 0} where
+  -- a value, and what is left after it
+  abbrev pub outAt : Bytes → A → Place → Out A
+  outAt call v (At i) = got v (drop i call)
+  outAt call v (Fault k) = bad k
+
+  -- what a reader gives on from a place
+  abbrev pub from : Bytes → Place → Reader A → Out A
+  from call (At i) r = r (drop i call)
+  from call (Fault k) r = bad k
+
+-- on from a place r gives the value v, and the reading stands at `next`; or it is the fault that r finds
+pub record Reads {A : Type 0} (call : Bytes) (at : Place) (r : Reader A) (v : A) (next : Place) : Type 0 where
+  pub out : outAt call v next ≡ from call at r
+
+abbrev pub refused : Place → ℕ → Place
+refused (At i) n = Fault n
+refused (Fault k) n = Fault k
+
+-- a fault unless a test holds
+unfoldable pub checked : Place → Bool → ℕ → Place
+checked at ok n = cond ok at (refused at n)
+
+abbrev pub noBytes : Place → TextRead
+noBytes q = record { text = record { at = 0; len = 0 }; next = q }
+
+-- n bytes at a place, none at a fault
+abbrev pub room : Place → ℕ → ℕ
+room (At i) n = n
+room (Fault k) n = 0
