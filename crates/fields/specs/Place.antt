@@ -4,10 +4,15 @@ use mathlib.Core.Path.{_≡_}
 use mathlib.Core.Bool.{Bool, cond}
 use lib.ListN.{drop}
 use Rattle.octets.specs.Bytes.{Bytes}
-use Rattle.definition.specs.Reader.{Out, got, bad, Reader}
+use Rattle.definition.specs.Limits.{causeLimit}
+use Rattle.definition.specs.Cause.{causeOf}
+use Rattle.definition.specs.Reader.{Out, got, bad, Reader, causeIs}
+use Rattle.model.specs.Meaning.{part, causePart, within, causeWithin}
+use Rattle.model.specs.declared.Span.{Span}
 use Rattle.fields.specs.declared.Place.{Place}
 use Rattle.fields.specs.declared.Place.the-variants.{At, Fault}
 use Rattle.fields.specs.declared.TextRead.{TextRead}
+use Rattle.fields.specs.declared.CauseRead.{CauseRead}
 
 module _ {A : Type 0} where
   -- a value, and what is left after it
@@ -39,3 +44,8 @@ noBytes q = record { text = record { at = 0; len = 0 }; next = q }
 abbrev pub room : Place → ℕ → ℕ
 room (At i) n = n
 room (Fault k) n = 0
+
+-- the bytes of a part, which starts at a place of the call, are a cause: what is answered means it; or they are none
+pub record IsCause (lent : Bytes) (at : ℕ) (next : Place) (r : CauseRead) : Type 0 where
+  pub reads : (call : Bytes) (p : Span) → lent ≡ part call p → p .at ≡ at → Reads call next (causeIs (causeOf lent)) (causePart call (r .cause)) (r .next)
+  pub fits : (call : Bytes) (p : Span) → lent ≡ part call p → p .at ≡ at → within call causeLimit p → causeWithin call (r .cause)

@@ -11,7 +11,7 @@ ghost use lib.Dec.{leb};
 ghost use lib.ListN.{length};
 ghost use Rattle.definition.specs.Reader.{bytes, number, choice, blob, text, optional, causeText};
 ghost use Rattle.model.specs.Meaning.{part, optPart, causePart, within, optWithin, causeWithin};
-ghost use Rattle.fields.specs.Place.{checked, noBytes, room, Reads};
+ghost use Rattle.fields.specs.Place.{checked, noBytes, room, Reads, IsCause};
 ghost use Rattle.fields.specs.Rule.{obeyed, stringBy};
 
 // Where the reading of a call stands: at a place, or at its first fault, which wins: a reader that is handed a fault hands it on.
@@ -211,21 +211,18 @@ pub fn option_at(call: &[u8], at: Place, limit: usize, rule: Rule) -> OptRead
     }
 }
 
-// A cause: a string in UTF-8, whose bytes are handed on.
-pub fn cause_at(call: &[u8], at: Place) -> CauseRead
-    ensures { λ r. ⌜ Reads (now (call .entry)) at causeText (causePart (now (call .entry)) (r .cause)) (r .next) × causeWithin (now (call .entry)) (r .cause) ⌝ }
+// The cause that a part of the call is, which starts at a place: its bytes are handed on.
+fn read_cause(lent: &[u8], at: usize, next: Place) -> CauseRead
+    requires { ⌜ at + length (now lent) < 2 ^ 64 ⌝ }
+    ensures { λ r. ⌜ IsCause (now (lent .entry)) at next r ⌝ }
 {
-    let t = text_at(call, at, Record::CAUSE);
-    let p = t.text;
-    let a = p.at;
-    let next = t.next;
-    match cause::cause_of(part_of(call, p)) {
+    match cause::cause_of(lent) {
         Cause::Name(k) => CauseRead {
             cause: CauseSpan::Name(k),
             next: next,
         },
         Cause::Other { at: x, len: n } => CauseRead {
-            cause: CauseSpan::Other(Span { at: a + x, len: n }),
+            cause: CauseSpan::Other(Span { at: at + x, len: n }),
             next: next,
         },
         Cause::No => CauseRead {
@@ -233,4 +230,14 @@ pub fn cause_at(call: &[u8], at: Place) -> CauseRead
             next: refuse_unless(next, false, 28),
         },
     }
+}
+
+// A cause: a string in UTF-8, and the cause that it is.
+pub fn cause_at(call: &[u8], at: Place) -> CauseRead
+    ensures { λ r. ⌜ Reads (now (call .entry)) at causeText (causePart (now (call .entry)) (r .cause)) (r .next) × causeWithin (now (call .entry)) (r .cause) ⌝ }
+{
+    let t = text_at(call, at, Record::CAUSE);
+    let p = t.text;
+    let next = t.next;
+    read_cause(part_of(call, p), p.at, next)
 }
