@@ -17,7 +17,7 @@ ghost use Rattle.definition.specs.Record.{short, causeSlot, objectParts, object
 ghost use Rattle.model.specs.Meaning.{part, optPart, causePart, objectValue, within, optWithin, causeWithin, objectWithin};
 
 // The cause in its stored form. It is put as a string of a call first, with a length of four bytes.
-pub fn cause_into(p: &mut [u8], call: &[u8], c: CauseSpan)
+pub(crate) fn cause_into(p: &mut [u8], call: &[u8], c: CauseSpan)
     requires { ⌜ (length (now p) ≡ payloadWidth) × causeWithin (now call) c ⌝ }
     ensures { λ _. ⌜ now (p .exit) ≡ splice (now (p .entry)) 175 (causeSlot .put (causePart (now (call .entry)) c)) ⌝ }
 {
@@ -58,7 +58,7 @@ fn store_into(p: &mut [u8], call: &[u8], a: Span, shard: OptSpan)
     octets::put16(p, AlarmAt::OBJECT + 134, 0);
 }
 
-pub fn object_into(p: &mut [u8], call: &[u8], o: AffectedObject)
+pub(crate) fn object_into(p: &mut [u8], call: &[u8], o: AffectedObject)
     requires { ⌜ (length (now p) ≡ payloadWidth) × objectWithin (now call) o ⌝ }
     ensures { λ _. ⌜ now (p .exit) ≡ splice (now (p .entry)) 273 (objectSlot .put (objectValue (now (call .entry)) o)) ⌝ }
 {

@@ -12,7 +12,7 @@ ghost use Rattle.definition.specs.Record.{anyBytes};
 ghost use Rattle.model.specs.Meaning.{part, optPart, within, optWithin};
 
 // A part of the call, in the slot of a string of at most n bytes.
-pub fn part_into(p: &mut [u8], at: usize, n: usize, call: &[u8], s: Span)
+pub(crate) fn part_into(p: &mut [u8], at: usize, n: usize, call: &[u8], s: Span)
     requires { ⌜ (at + (2 + n) ≤ length (now p)) × (n ≤ detailsLimit) × within (now call) n s ⌝ }
     ensures { λ _. ⌜ now (p .exit) ≡ splice (now (p .entry)) at (stringBytes n (part (now (call .entry)) s)) ⌝ }
 {
@@ -22,7 +22,7 @@ pub fn part_into(p: &mut [u8], at: usize, n: usize, call: &[u8], s: Span)
 }
 
 // A byte before it.
-pub fn marked_into(p: &mut [u8], at: usize, n: usize, mark: u8, call: &[u8], s: Span)
+pub(crate) fn marked_into(p: &mut [u8], at: usize, n: usize, mark: u8, call: &[u8], s: Span)
     requires { ⌜ (at + (3 + n) ≤ length (now p)) × (n ≤ detailsLimit) × within (now call) n s ⌝ }
     ensures { λ _. ⌜ now (p .exit) ≡ splice (now (p .entry)) at (mark ∷ stringBytes n (part (now (call .entry)) s)) ⌝ }
 {
@@ -32,7 +32,7 @@ pub fn marked_into(p: &mut [u8], at: usize, n: usize, mark: u8, call: &[u8], s: 
 }
 
 // A part that may be absent.
-pub fn option_into(p: &mut [u8], at: usize, n: usize, call: &[u8], s: OptSpan)
+pub(crate) fn option_into(p: &mut [u8], at: usize, n: usize, call: &[u8], s: OptSpan)
     requires { ⌜ (at + (3 + n) ≤ length (now p)) × (n ≤ detailsLimit) × optWithin (now call) n s ⌝ }
     ensures { λ _. ⌜ now (p .exit) ≡ splice (now (p .entry)) at (option (string n anyBytes) .put (optPart (now (call .entry)) s)) ⌝ }
 {

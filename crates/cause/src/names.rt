@@ -8,7 +8,7 @@ ghost use Rattle.definition.specs.Cause.{names};
 ghost use Rattle.cause.specs.Meaning.{named, startOf};
 
 // Which of the names a string is.
-pub enum Named {
+pub(crate) enum Named {
     At(usize),
     Nothing,
 }
@@ -111,7 +111,7 @@ fn part_is(all: &[u8], a: usize, n: usize, s: &[u8]) -> bool
 }
 
 // The place of s among the names.
-pub fn name(s: &[u8]) -> Named
+pub(crate) fn name(s: &[u8]) -> Named
     ensures { λ r. ⌜ named (now (s .entry)) r ⌝ }
 {
     let mut k = 0;

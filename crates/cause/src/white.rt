@@ -144,7 +144,7 @@ fn space_len(s: &[u8]) -> usize
 }
 
 // How many bytes of white space stand in s at i.
-pub fn space_at(s: &[u8], i: usize) -> usize
+pub(crate) fn space_at(s: &[u8], i: usize) -> usize
     requires { ⌜ i ≤ length (now s) ⌝ }
     ensures { λ r. ⌜ (r ≡ space (drop i (now (s .entry)))) × (i + r ≤ length (now (s .entry))) ⌝ }
 {
@@ -152,7 +152,7 @@ pub fn space_at(s: &[u8], i: usize) -> usize
 }
 
 // The place at which s starts without the white space at its start.
-pub fn trim_start(s: &[u8]) -> usize
+pub(crate) fn trim_start(s: &[u8]) -> usize
     ensures { λ r. ⌜ (r ≤ length (now (s .entry))) × (startFrom 0 (now (s .entry)) ≡ drop r (now (s .entry))) ⌝ }
 {
     let mut i = 0;
@@ -167,7 +167,7 @@ pub fn trim_start(s: &[u8]) -> usize
 }
 
 // The length of s without the white space at its end.
-pub fn trim_end(s: &[u8]) -> usize
+pub(crate) fn trim_end(s: &[u8]) -> usize
     ensures { λ r. ⌜ (r ≤ length (now (s .entry))) × (endFrom 0 (now (s .entry)) ≡ take r (now (s .entry))) ⌝ }
 {
     let mut i = 0;

@@ -9,9 +9,9 @@ ghost use lib.ListN.{length};
 ghost use Rattle.record_check.specs.Ruler.{rulerBytes, Joins, Holds};
 
 // The or of all bytes of a room, and of those behind its string.
-pub struct Held {
-    pub all: u8,
-    pub behind: u8,
+pub(crate) struct Held {
+    pub(crate) all: u8,
+    pub(crate) behind: u8,
 }
 
 // The or of the room's bytes, and of what `and` with the ruler leaves of them.
@@ -31,7 +31,7 @@ fn joined(room: &[u8], ruler: &[u8]) -> Held
 }
 
 // What a room holds whose first m bytes are the string.
-pub fn look(room: &[u8], ruler: &[u8], m: usize) -> Held
+pub(crate) fn look(room: &[u8], ruler: &[u8], m: usize) -> Held
     requires { ⌜ (m ≤ length (now room)) × (length (now room) ≤ 512) × (now ruler ≡ rulerBytes) ⌝ }
     ensures { λ r. ⌜ Holds (now (room .entry)) m r ⌝ }
 {
