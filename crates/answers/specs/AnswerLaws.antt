@@ -5,25 +5,16 @@ use Prim.Native.Nat.{ℕ, _+_, _≤_}
 use native.Mathlib.Omega.{arith}
 use lib.ListN.{length, take, drop, length-append}
 use lib.Seq.{take-at, drop-at, length-take-le, take-take}
-use Rattle.octets.specs.Bytes.{Bytes, be32, be64, splice}
-use Rattle.octets.specs.NumberLaws.{length-digits}
+use Rattle.octets.specs.Bytes.{Bytes, be32, splice}
 use Rattle.octets.specs.SpliceLaws.{splice-none}
 use Rattle.octets.specs.Put.{Put}
 use Rattle.octets.specs.PutLaws.{put-as}
 use Rattle.definition.specs.Alarm.{Alarm, Event}
 use Rattle.definition.specs.Record.{alarmBytes}
 use Rattle.definition.specs.Station.{Step}
-use Rattle.definition.specs.MoveLaws.{Does}
-use Rattle.definition.specs.ReplyLaws.{Answers}
 use Rattle.definition.specs.Answer.{Answer, Head, head, headOf, headBytes, alarmRecord, eventRecord, eventRecords, body, answerBytes}
-
-pub length-head : (h : Head) → length (headBytes h) ≡ 16
-length-head h =
-    omega (arith, length-append (be32 (h .count)) (be64 (h .number)), length-digits 4 (h .count), length-digits 8 (h .number))
-
-pub length-answer : (x : Answer) → length (answerBytes x) ≡ 16 + length (body x)
-unfolding answerBytes
-length-answer x = omega (arith, length-append (headBytes (headOf x)) (body x), length-head (headOf x))
+use Rattle.definition.specs.AnswerLaws.{length-head}
+use Rattle.definition.specs.Does.{Does, Answers}
 
 -- ---- which answer a head and a body are
 

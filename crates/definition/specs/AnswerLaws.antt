@@ -8,14 +8,14 @@ use Rattle.octets.specs.Bytes.{be32, be64}
 use Rattle.octets.specs.NumberLaws.{length-digits}
 use Rattle.definition.specs.Alarm.{Alarm, Event}
 use Rattle.definition.specs.RecordLaws.{length-alarm, length-event}
-use Rattle.definition.specs.Answer.{Answer, Raised, Updated, Cleared, ClearWithoutActive, ActiveLimitExceeded, Suppressed, Acknowledged, Unauthorized, AuditFailed, NotFound, Expired, Alarms, Counts, Summary, Events, headBytes, headOf, alarmRecord, eventRecord, alarmRecords, eventRecords, body, answerBytes}
+use Rattle.definition.specs.Answer.{Answer, Raised, Updated, Cleared, ClearWithoutActive, ActiveLimitExceeded, Suppressed, Acknowledged, Unauthorized, AuditFailed, NotFound, Expired, Alarms, Counts, Summary, Events, Head, headBytes, headOf, alarmRecord, eventRecord, alarmRecords, eventRecords, body, answerBytes}
 use Rattle.definition.specs.ChainLaws.{length-map}
 use Rattle.definition.specs.Blank.{blank, blankAnswer}
 
 pub length-alarmRecord : (a : Alarm) → length (alarmRecord a) ≡ 1536
 length-alarmRecord a = length-append (be32 0) _ ∙ omega (arith, length-digits 4 0, length-alarm a)
 
-pub length-eventRecord : (e : Event) → length (eventRecord e) ≡ 1536
+length-eventRecord : (e : Event) → length (eventRecord e) ≡ 1536
 length-eventRecord e = length-append (be32 0) _ ∙ omega (arith, length-digits 4 0, length-event e)
 
 pub length-alarmRecords : (l : List Alarm) → length (alarmRecords l) ≡ 1536 * length l
@@ -49,12 +49,13 @@ body-blank (Counts l) = refl
 body-blank (Summary t) = refl
 body-blank (Events l) = refl
 
-head-length : (x : Answer) → length (answerBytes x) ≡ 16 + length (body x)
+pub length-head : (h : Head) → length (headBytes h) ≡ 16
+length-head h =
+    omega (arith, length-append (be32 (h .count)) (be64 (h .number)), length-digits 4 (h .count), length-digits 8 (h .number))
+
+pub length-answer : (x : Answer) → length (answerBytes x) ≡ 16 + length (body x)
 unfolding answerBytes
-head-length x =
-    let h = headOf x in
-    length-append (headBytes h) (body x)
-    ∙ omega (arith, length-append (be32 (h .count)) (be64 (h .number)), length-digits 4 (h .count), length-digits 8 (h .number))
+length-answer x = omega (arith, length-append (headBytes (headOf x)) (body x), length-head (headOf x))
 
 pub size-blank : (x : Answer) → length (answerBytes (blankAnswer x)) ≡ length (answerBytes x)
-size-blank x = head-length (blankAnswer x) ∙ ap (λ (n : ℕ). 16 + n) (body-blank x) ∙ sym (head-length x)
+size-blank x = length-answer (blankAnswer x) ∙ ap (λ (n : ℕ). 16 + n) (body-blank x) ∙ sym (length-answer x)

@@ -67,7 +67,7 @@ historyFull-blind = look-blind asIs _ _ (λ s. ap (leb (s .limitH)) (length-map 
 
 -- ---- the moves
 
-pub taking-blind : (p q : ℕ → List ℕ → Station → Station) → ((i : ℕ) (f : List ℕ) (s : Station) → q i f (blankStation s) ≡ blankStation (p i f s))
+taking-blind : (p q : ℕ → List ℕ → Station → Station) → ((i : ℕ) (f : List ℕ) (s : Station) → q i f (blankStation s) ≡ blankStation (p i f s))
     → (l : List ℕ) (s : Station) → taking q l (blankStation s) ≡ blankOutcome asIs (taking p l s)
 unfolding taking
 taking-blind p q h [] s = refl

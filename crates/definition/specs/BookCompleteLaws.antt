@@ -8,18 +8,20 @@ use lib.Seq.{drop-at, take-all}
 use Rattle.octets.specs.Bytes.{Bytes, at32, zeros}
 use Rattle.octets.specs.NumberLaws.{length-digits, length-zeros}
 use Rattle.octets.specs.PackLaws.{part-pack}
-use Rattle.definition.specs.Book.{Record, Book, chain, capacity, headOf, lastOf, times, recordAt, words, be32s, counters, header, bookBytes, readBook}
-use Rattle.definition.specs.BookChainLaws.{last-nil, last-on}
-use Rattle.definition.specs.BookLegalLaws.{Legal, Sound, fair}
+use Rattle.definition.specs.Book.{Record, Book, capacity, recordAt, words, be32s, counters, header, bookBytes, readBook}
+use Rattle.definition.specs.BookLegalLaws.{fair}
 use Rattle.definition.specs.BookHeaderLaws.{length-be32s}
 use Rattle.definition.specs.BookWithLaws.{total-two}
 use Rattle.definition.specs.BookRelinkLaws.{length-record}
 use Rattle.definition.specs.BookReadLaws.{index-range}
 use Rattle.definition.specs.BookSoundLaws.{length-sound, head-at, length-at, link-at}
-use Rattle.definition.specs.BookCheckLaws.{Leads, Checked}
+use Rattle.definition.specs.Chain.{headOf, lastOf, times}
+use Rattle.definition.specs.TimesLaws.{last-nil, last-on}
+use Rattle.definition.specs.BookLegal.{Legal, Sound, chain}
+use Rattle.definition.specs.BookCheck.{Leads, Checked}
 
 on-last : (c : List Record) → 1 ≤ lastOf c → 1 ≤ times (lastOf c) c
-on-last [] h = absurd (omega (arith, last-nil))
+on-last [] h = absurd (omega (arith, last-nil Bytes))
 on-last (e ∷ c) h = last-on e c
 
 header-tail : (s : Book) → Legal s → take 1476 (drop 60 (bookBytes s)) ≡ zeros 1476
@@ -52,8 +54,10 @@ module _ (b : Bytes) (sound : Sound b) where
         numbers = record {
           limits = l .limits;
           size = length-sound b sound;
-          within = omega (arith, l .within 0 (omega arith), l .within 1 (omega arith), l .within 2 (omega arith), n 0 (omega arith), n 1 (omega arith), n 2 (omega arith));
-          filled = omega (arith, l .filled, n 0 (omega arith), n 1 (omega arith), n 2 (omega arith), n 3 (omega arith));
+          counts = record {
+            within = omega (arith, l .within 0 (omega arith), l .within 1 (omega arith), l .within 2 (omega arith), n 0 (omega arith), n 1 (omega arith), n 2 (omega arith));
+            filled = omega (arith, l .filled, n 0 (omega arith), n 1 (omega arith), n 2 (omega arith), n 3 (omega arith));
+          };
         };
         chained = record {
           leads = λ x hx. rw (length-at b sound x hx, head-at b sound x hx) (leads x hx [] (chain x s) refl);

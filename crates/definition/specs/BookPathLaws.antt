@@ -6,9 +6,10 @@ use native.Mathlib.Omega.{arith}
 use native.Mathlib.Decide.{ℕ-discrete}
 use lib.ListN.{length}
 use Rattle.octets.specs.Bytes.{Bytes, at32}
-use Rattle.definition.specs.Book.{recordOf, lastOf, times, walk}
-use Rattle.definition.specs.BookChainLaws.{last-on, times-hit, times-miss, times-nil, last-later}
-use Rattle.definition.specs.BookCheckLaws.{Leads}
+use Rattle.definition.specs.Book.{recordOf, walk}
+use Rattle.definition.specs.Chain.{lastOf, times}
+use Rattle.definition.specs.TimesLaws.{last-on, times-hit, times-miss, times-nil, last-later}
+use Rattle.definition.specs.BookCheck.{Leads}
 
 pub length-walk : (b : Bytes) (n i : ℕ) → length (walk b n i) ≡ n
 unfolding walk
@@ -32,7 +33,7 @@ module _ (b : Bytes) (m : ℕ) where
 
   from : (n i j : ℕ) → Leads b m n i → 1 ≤ times j (walk b n i) → From n i j
   unfolding walk
-  from zero i j p h = absurd (omega (arith, times-nil j))
+  from zero i j p h = absurd (omega (arith, times-nil Bytes j))
   from (suc n) i j p h =
       elim (ℕ-discrete i j) [
         | yes q ↦ subst (λ (z : ℕ). From (suc n) i z) q (record { k = n; short = omega arith; leads = p; last = refl })
@@ -45,7 +46,7 @@ module _ (b : Bytes) (m : ℕ) where
 
   pub leads-once : (n i j : ℕ) → Leads b m n i → times j (walk b n i) ≤ 1
   unfolding walk
-  leads-once zero i j p = omega (arith, times-nil j)
+  leads-once zero i j p = omega (arith, times-nil Bytes j)
   leads-once (suc n) i j p =
       let r = at32 b (1536 * i) in
       elim (ℕ-discrete i j) [
@@ -73,7 +74,7 @@ module _ (b : Bytes) (m : ℕ) where
   -- the last record of a way, where it has one, is not 0
   pub leads-last : (n i j : ℕ) → Leads b m n i → 1 ≤ times j (walk b n i) → 1 ≤ lastOf (walk b n i)
   unfolding walk
-  leads-last zero i j p h = absurd (omega (arith, times-nil j))
+  leads-last zero i j p h = absurd (omega (arith, times-nil Bytes j))
   leads-last (suc n) i j p h =
       let r = walk b n (at32 b (1536 * i)) in
       leads-in (suc n) i (lastOf (recordOf b i ∷ r)) p (last-on (recordOf b i) r) .0

@@ -10,11 +10,12 @@ use lib.ListN.{length}
 use Rattle.octets.specs.Bytes.{Bytes, zeros}
 use Rattle.octets.specs.BoolLaws.{both, both-left, both-right, true-holds}
 use Rattle.octets.specs.SameLaws.{same→eq, eq→same}
-use Rattle.definition.specs.Book.{Record, Book, chain, limit, capacity, isLimit, limitsLegal, lengthsLegal, every, isRecord, recordsLegal, isZeroed, times, total, eachOnce, countersLegal, legalBook, soundBook, bookBytes, readBook}
-use Rattle.definition.specs.BookChainLaws.{Sized, Blank, times-hit, times-miss, times-nil, times-cons}
-use Rattle.definition.specs.BookLegalLaws.{Limit, Legal, Sound}
+use Rattle.definition.specs.Book.{Record, Book, capacity, isLimit, limitsLegal, lengthsLegal, every, isRecord, recordsLegal, isZeroed, total, eachOnce, countersLegal, legalBook, soundBook, bookBytes, readBook}
 use Rattle.definition.specs.BookWithLaws.{lengths, total-on, total-where}
 use Rattle.definition.specs.BookSumLaws.{sum-ones, sum-total}
+use Rattle.definition.specs.Chain.{times}
+use Rattle.definition.specs.BookLegal.{Sized, Blank, Limit, Legal, Sound, chain, limit}
+use Rattle.definition.specs.TimesLaws.{times-hit, times-miss, times-nil, times-cons}
 
 eq→eqb : (m n : ℕ) → m ≡ n → T (eqb m n)
 eq→eqb m n e = subst (λ (k : ℕ). T (eqb m k)) e (eqb-refl m)
@@ -22,10 +23,10 @@ eq→eqb m n e = subst (λ (k : ℕ). T (eqb m k)) e (eqb-refl m)
 -- ---- two tests
 
 module _ (a b : Bool) {P Q : Type 0} where
-  pub pair-to : (T a → P) → (T b → Q) → T (a && b) → P × Q
+  pair-to : (T a → P) → (T b → Q) → T (a && b) → P × Q
   pair-to f g t = (f (both-left a b t), g (both-right a b t))
 
-  pub pair-from : (P → T a) → (Q → T b) → P × Q → T (a && b)
+  pair-from : (P → T a) → (Q → T b) → P × Q → T (a && b)
   pair-from f g p = both a b (f (p .0)) (g (p .1))
 
 -- ---- limits
@@ -44,7 +45,7 @@ limits-to a h e t =
       limit-to e (both-right (isLimit h) (isLimit e) r),
     )
 
-pub limits-from : (a h e : ℕ) → Limit a × Limit h × Limit e → T (isLimit a && (isLimit h && isLimit e))
+limits-from : (a h e : ℕ) → Limit a × Limit h × Limit e → T (isLimit a && (isLimit h && isLimit e))
 limits-from a h e l =
     both (isLimit a) (isLimit h && isLimit e) (limit-from a (l .0)) (both (isLimit h) (isLimit e) (limit-from h (l .1)) (limit-from e (l .2)))
 
@@ -77,7 +78,7 @@ inside-cons n e c h k j l =
 
 records-to : (n : ℕ) (c : List Record) → T (every (isRecord n) c) → Sized c × Inside n c
 unfolding every
-records-to n [] t = (tt, λ j h. absurd (omega (arith, times-nil j)))
+records-to n [] t = (tt, λ j h. absurd (omega (arith, times-nil Bytes j)))
 records-to n (e ∷ c) t =
     let r = record-to n e (both-left (isRecord n e) (every (isRecord n) c) t) in
     let s = records-to n c (both-right (isRecord n e) (every (isRecord n) c) t) in
@@ -180,7 +181,7 @@ lengths-to s t (suc (suc zero)) h =
     leb→le (length (s .audit)) (s .limitE) (both-right (leb (length (s .history)) (s .limitH)) _ (both-right (leb (length (s .active)) (s .limitA)) _ t))
 lengths-to s t (suc (suc (suc x))) h = absurd (omega arith)
 
-pub legal-to : (s : Book) → T (legalBook s) → Legal s
+legal-to : (s : Book) → T (legalBook s) → Legal s
 unfolding lengths
 legal-to s t =
     let c = tests-to s t in
@@ -197,7 +198,7 @@ legal-to s t =
       counters = pair-to (ltb (s .successes) 18446744073709551616) (ltb (s .failures) 18446744073709551616) (ltb→lt _ _) (ltb→lt _ _) (c .counters);
     }
 
-pub legal-from : (s : Book) → Legal s → T (legalBook s)
+legal-from : (s : Book) → Legal s → T (legalBook s)
 legal-from s l =
     tests-from s (record {
       limits = limits-from (s .limitA) (s .limitH) (s .limitE) (l .limits);

@@ -6,16 +6,18 @@ use native.Mathlib.Omega.{arith}
 use native.Mathlib.Decide.{ℕ-discrete}
 use lib.Seq.{take-add, drop-drop}
 use lib.ListN.{length, take, drop, length-take, length-drop}
-use Rattle.octets.specs.Bytes.{Bytes, be32, be64, at32, numberAt}
-use Rattle.octets.specs.NumberLaws.{Octets, be32-at32, digits-number, number-lt}
+use Rattle.octets.specs.Bytes.{Bytes, Octets, be32, be64, at32, numberAt}
+use Rattle.octets.specs.NumberLaws.{be32-at32, digits-number, number-lt}
 use Rattle.octets.specs.PackLaws.{pack-ext, pack-parts}
-use Rattle.definition.specs.Book.{Record, Book, recordOf, chain, limit, capacity, headOf, lastOf, times, total, recordIn, recordAt, words, be32s, header, bookBytes, readBook, walk}
-use Rattle.definition.specs.BookChainLaws.{Sized, times-nil, times-miss, in-hit, in-miss}
-use Rattle.definition.specs.BookLegalLaws.{Legal, Sound}
+use Rattle.definition.specs.Book.{Record, Book, recordOf, capacity, total, recordIn, recordAt, words, be32s, header, bookBytes, readBook, walk}
+use Rattle.definition.specs.BookChainLaws.{in-hit, in-miss}
 use Rattle.definition.specs.BookWithLaws.{lengths, with-self, record-with, total-on, total-where}
-use Rattle.definition.specs.BookCheckLaws.{Leads, Checked}
 use Rattle.definition.specs.BookPathLaws.{length-walk, leads-once, leads-in, leads-meet, leads-last}
 use Rattle.definition.specs.BookSumLaws.{sum-full, sum-total}
+use Rattle.definition.specs.Chain.{headOf, lastOf, times}
+use Rattle.definition.specs.BookLegal.{Sized, Legal, Sound, chain, limit}
+use Rattle.definition.specs.TimesLaws.{times-nil, times-miss}
+use Rattle.definition.specs.BookCheck.{Leads, Checked}
 
 pub chain-read : (b : Bytes) (x : ℕ) → x < 4 → chain x (readBook b) ≡ walk b (at32 b (16 + 8 * x)) (at32 b (12 + 8 * x))
 unfolding readBook
@@ -42,7 +44,7 @@ in-walk :
     (b : Bytes) (m n i j : ℕ) (d : Bytes) → Leads b m n i → 1 ≤ times j (walk b n i) →
     recordIn (walk b n i) j d ≡ be32 (at32 b (1536 * j)) ++ take 1532 (drop (1536 * j + 4) b)
 unfolding walk
-in-walk b m zero i j d p h = absurd (omega (arith, times-nil j))
+in-walk b m zero i j d p h = absurd (omega (arith, times-nil Bytes j))
 in-walk b m (suc n) i j d p h =
     let r = at32 b (1536 * i) in
     elim (ℕ-discrete i j) [
@@ -127,10 +129,10 @@ module _ (b : Bytes) (ck : Checked b) (byte : Octets b) where
   length-on x hx = ap length (chain-read b x hx) ∙ length-walk b _ _
 
   filled : lengths s ≡ m
-  unfolding lengths len
-  filled = omega (arith, length-on 0 (omega arith), length-on 1 (omega arith), length-on 2 (omega arith), length-on 3 (omega arith), ck .numbers .filled)
+  unfolding lengths len readBook
+  filled = omega (arith, length-on 0 (omega arith), length-on 1 (omega arith), length-on 2 (omega arith), length-on 3 (omega arith), ck .numbers .counts .filled)
 
-  pub check-legal : Legal s
+  check-legal : Legal s
   unfolding readBook lengths len
   check-legal =
       record {
@@ -145,9 +147,9 @@ module _ (b : Bytes) (ck : Checked b) (byte : Octets b) where
       }
     where
       within : (x : ℕ) → x < 3 → length (chain x s) ≤ limit x s
-      within zero h = omega (arith, length-on 0 (omega arith), ck .numbers .within)
-      within (suc zero) h = omega (arith, length-on 1 (omega arith), ck .numbers .within)
-      within (suc (suc zero)) h = omega (arith, length-on 2 (omega arith), ck .numbers .within)
+      within zero h = omega (arith, length-on 0 (omega arith), ck .numbers .counts .within)
+      within (suc zero) h = omega (arith, length-on 1 (omega arith), ck .numbers .counts .within)
+      within (suc (suc zero)) h = omega (arith, length-on 2 (omega arith), ck .numbers .counts .within)
       within (suc (suc (suc x))) h = absurd (omega arith)
 
   -- record j on chain x
@@ -199,7 +201,7 @@ module _ (b : Bytes) (ck : Checked b) (byte : Octets b) where
       (ap₂ _++_ c (sym (ck .tail) ∙ ap (take 1476) (sym (drop-drop 16 44 b))) ∙ sym (take-add 16 1476 (drop 44 b)))
       ∙ sym (take-add 44 1492 b)
 
-  pub check-bytes : bookBytes s ≡ b
+  check-bytes : bookBytes s ≡ b
   unfolding bookBytes recordAt
   check-bytes = pack-ext (suc m) (recordAt s) (λ j. take 1536 (drop (1536 * j) b)) part ∙ pack-parts 1536 (suc m) b (ck .numbers .size)
     where

@@ -8,15 +8,18 @@ use native.Mathlib.Decide.{ℕ-discrete}
 use lib.Dec.{eqb}
 use lib.ListN.{length}
 use borrow.Author.Tests.{eq-eqb, ne-eqb}
-use Rattle.definition.specs.Book.{Record, Book, chain, times, total}
-use Rattle.definition.specs.BookChainLaws.{times-cons, times-hit, times-nil}
+use Rattle.octets.specs.Bytes.{Bytes}
+use Rattle.definition.specs.Book.{Record, Book, total}
 use Rattle.definition.specs.BookWithLaws.{lengths}
+use Rattle.definition.specs.Chain.{times}
+use Rattle.definition.specs.TimesLaws.{times-cons, times-hit, times-nil}
+use Rattle.definition.specs.BookLegal.{chain}
 
 unfoldable pub sumTo : (ℕ → ℕ) → ℕ → ℕ
 sumTo f zero = 0
 sumTo f (suc n) = f (suc n) + sumTo f n
 
-pub sum-add : (f g h : ℕ → ℕ) (n : ℕ) → ((j : ℕ) → h j ≡ f j + g j) → sumTo h n ≡ sumTo f n + sumTo g n
+sum-add : (f g h : ℕ → ℕ) (n : ℕ) → ((j : ℕ) → h j ≡ f j + g j) → sumTo h n ≡ sumTo f n + sumTo g n
 unfolding sumTo
 sum-add f g h zero e = refl
 sum-add f g h (suc n) e = omega (arith, e (suc n), sum-add f g h n e)
@@ -51,9 +54,9 @@ sum-full f (suc n) h e j u v =
     ]
 
 -- each record of a chain, whose indices are of 1 .. n, is counted once
-pub sum-chain : (n : ℕ) (c : List Record) → ((j : ℕ) → 1 ≤ times j c → (1 ≤ j) × (j ≤ n)) → sumTo (λ j. times j c) n ≡ length c
+sum-chain : (n : ℕ) (c : List Record) → ((j : ℕ) → 1 ≤ times j c → (1 ≤ j) × (j ≤ n)) → sumTo (λ j. times j c) n ≡ length c
 unfolding times
-sum-chain n [] h = sum-none (λ j. times j []) n (λ j _ _. times-nil j)
+sum-chain n [] h = sum-none (λ j. times {A = Bytes} j []) n (λ j _ _. times-nil Bytes j)
 sum-chain n (e ∷ c) h =
     let own : (1 ≤ e .index) × (e .index ≤ n) = h (e .index) (omega (arith, times-hit e c (e .index) refl)) in
     sum-add (λ j. cond (eqb (e .index) j) 1 0) (λ j. times j c) (λ j. times j (e ∷ c)) n (λ j. refl)

@@ -5,13 +5,14 @@ use Prim.Native.Nat.{ℕ, suc, _+_, _-_, _*_, _≤_, _<_}
 use native.Mathlib.Omega.{arith}
 use lib.ListN.{length}
 use Rattle.octets.specs.Bytes.{Bytes, at32}
-use Rattle.definition.specs.Book.{Record, recordOf, lastOf, chain, capacity, readBook, walk}
+use Rattle.definition.specs.Book.{Record, recordOf, capacity, readBook, walk}
 use Rattle.definition.specs.BookSplitLaws.{lastFrom, last-from-zero}
-use Rattle.definition.specs.BookLegalLaws.{Sound}
 use Rattle.definition.specs.BookSoundLaws.{length-sound}
-use Rattle.definition.specs.BookCheckLaws.{Leads}
 use Rattle.definition.specs.BookSoundnessLaws.{chain-read}
 use Rattle.definition.specs.BookCompleteLaws.{sound-checked}
+use Rattle.definition.specs.Chain.{lastOf}
+use Rattle.definition.specs.BookLegal.{Sound, chain}
+use Rattle.definition.specs.BookCheck.{Leads}
 
 more : (n k : ℕ) → k < n → n - k ≡ suc (n - (k + 1))
 more n k h = omega arith
@@ -28,13 +29,13 @@ pub record Along {A : Type 0} (f : ℕ → List Record → A) (b : Bytes) (m n i
   pub same : f q (walk b (n - k) at) ≡ f 0 (walk b n i)
 
 module _ {A : Type 0} (f : ℕ → List Record → A) (b : Bytes) (m n i : ℕ) where
-  pub along-start : Leads b m n i → Along f b m n i i 0 0
+  along-start : Leads b m n i → Along f b m n i i 0 0
   along-start p =
       let z : n - 0 ≡ n = omega arith in
       record { le = omega arith; leads = subst (λ (r : ℕ). Leads b m r i) (sym z) p; same = ap (λ (r : ℕ). f 0 (walk b r i)) z }
 
   module _ (at q k : ℕ) (w : Along f b m n i at q k) where
-    pub along-at : k < n → (1 ≤ at) × (at ≤ m) × Leads b m (n - (k + 1)) (at32 b (1536 * at))
+    along-at : k < n → (1 ≤ at) × (at ≤ m) × Leads b m (n - (k + 1)) (at32 b (1536 * at))
     along-at h = subst (λ (r : ℕ). Leads b m r at) (more n k h) (w .leads)
 
     -- the record that the way is at, and the rest

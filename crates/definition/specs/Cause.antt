@@ -39,6 +39,7 @@ unfoldable pub oneOf : List Bytes → Bytes → Bool
 oneOf [] s = false
 oneOf (n ∷ ns) s = same n s || oneOf ns s
 
+-- b in front of the first text
 abbrev pub onto : ℕ → List Bytes → List Bytes
 onto b [] = (b ∷ []) ∷ []
 onto b (t ∷ ts) = (b ∷ t) ∷ ts
@@ -52,6 +53,7 @@ unfoldable pub hasDot : Bytes → Bool
 hasDot [] = false
 hasDot (b ∷ s) = eqb b 46 || hasDot s
 
+-- not empty
 abbrev pub full : Bytes → Bool
 full [] = false
 full (b ∷ s) = true
@@ -75,6 +77,7 @@ otherOf t = cond (dotted t) (some (other ++ t)) none
 unfoldable pub causeOf : Bytes → Option Bytes
 causeOf s = cond (oneOf names s) (some s) (cond (begins other s) (otherOf (trim (drop 6 s))) none)
 
+-- a stored form, and it is s
 abbrev pub sameAs : Bytes → Option Bytes → Bool
 sameAs s none = false
 sameAs s (some t) = same t s

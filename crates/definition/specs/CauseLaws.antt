@@ -1,23 +1,21 @@
 -- Laws of causes and of their stored form.
 use mathlib.Core.Path.{_≡_, refl, sym, ap, _∙_, subst}
 use mathlib.Core.Bool.{Bool, true, false, cond, _&&_, not}
-use mathlib.Core.List.{[], _∷_, _++_}
+use mathlib.Core.List.{_++_}
 use mathlib.Core.Option.{none, some}
-use Prim.Native.Nat.{ℕ, zero, suc, _≤_}
+use Prim.Native.Nat.{ℕ, _≤_}
 use native.Mathlib.Omega.{arith}
-use borrow.Author.Tests.{ltb-true}
-use lib.Dec.{T, ltb}
+use lib.Dec.{T}
 use lib.ListN.{length, drop, length-drop}
 use lib.Seq.{drop-append-seam}
 use Rattle.octets.specs.Bytes.{Bytes, begins}
 use Rattle.octets.specs.BoolLaws.{both-left, both-right, holds, true-holds, same-tests}
 use Rattle.octets.specs.SameLaws.{same-refl, same→eq, eq→same}
-use Rattle.octets.specs.NumberLaws.{Octets, octets-drop}
 use Rattle.definition.specs.Utf8.{leads, follows, utf8From, utf8}
-use Rattle.definition.specs.Utf8Laws.{plain, utf8-append}
+use Rattle.definition.specs.Utf8Laws.{utf8-append}
 use Rattle.definition.specs.White.{trim, hasSpace}
 use Rattle.definition.specs.WhiteLaws.{begins-split, begins-le, trim-none}
-use Rattle.definition.specs.TrimLaws.{trim-le, trim-octets, trim-utf8}
+use Rattle.definition.specs.TrimLaws.{trim-le, trim-utf8}
 use Rattle.definition.specs.Cause.{names, oneOf, segments, hasDot, allFull, dotted, other, otherOf, causeOf, sameAs, stored}
 
 -- ---- what is stored
@@ -65,7 +63,7 @@ module _ (s : Bytes) (none-of : oneOf names s ≡ false) where
 
 -- ---- what a cause is: one of the names, or `other:` and a dotted name
 
-pub by-cause : (P : Bytes → Type 0) (t c : Bytes) → causeOf t ≡ some c
+by-cause : (P : Bytes → Type 0) (t c : Bytes) → causeOf t ≡ some c
     → (oneOf names t ≡ true → P t) → (T (begins other t) → T (dotted (trim (drop 6 t))) → P (other ++ trim (drop 6 t))) → P c
 unfolding causeOf
 by-cause P t c e name dots = go (oneOf names t) refl e
@@ -103,18 +101,6 @@ pub cause-length : (t c : Bytes) → causeOf t ≡ some c → length c ≤ lengt
 cause-length t c e =
     by-cause (λ (x : Bytes). length x ≤ length t) t c e (λ n. omega arith)
     (λ b d. omega (arith, trim-le (drop 6 t), length-drop 6 t, begins-le other t b))
-
--- its bytes are bytes where the cause's are
-behind-plain : (p u : Bytes) → T (plain p) → Octets u → Octets (p ++ u)
-unfolding plain
-behind-plain [] u t h i = h i
-behind-plain (b ∷ p) u t h zero = let k = ltb-true b 128 (holds _ (both-left (ltb b 128) (plain p) t)) in omega arith
-behind-plain (b ∷ p) u t h (suc i) = behind-plain p u (both-right (ltb b 128) (plain p) t) h i
-
-pub cause-octets : (t c : Bytes) → causeOf t ≡ some c → Octets t → Octets c
-unfolding plain
-cause-octets t c e h =
-    by-cause Octets t c e (λ n. h) (λ b d. behind-plain other (trim (drop 6 t)) tt (trim-octets (drop 6 t) (octets-drop 6 t h)))
 
 -- it is UTF-8 where the cause is
 pub cause-utf8 : (t c : Bytes) → causeOf t ≡ some c → utf8 t ≡ true → utf8 c ≡ true

@@ -3,8 +3,7 @@ use Prim.Native.Nat.{ℕ}
 use mathlib.Core.Path.{_≡_}
 use mathlib.Core.List.{List, [], _∷_, map}
 use lib.ListN.{length, take, getD}
-use Rattle.octets.specs.Bytes.{Bytes, splice}
-use Rattle.octets.specs.NumberLaws.{Octets}
+use Rattle.octets.specs.Bytes.{Bytes, Octets, splice}
 use Rattle.definition.specs.Opening.{opened, openOf}
 use Rattle.definition.specs.Lists.{Reply, stepOf, run}
 use Rattle.definition.specs.Mask.{maskRegister, maskAnswer}

@@ -1,5 +1,5 @@
 -- Demand 3's claim holds.
-use Prim.Native.Nat.{ℕ, zero, suc, _+_, _*_}
+use Prim.Native.Nat.{ℕ, _+_, _*_}
 use mathlib.Core.Path.{_≡_, refl, sym, ap, ap₂, _∙_, subst}
 use mathlib.Core.List.{List, [], _∷_, map}
 use mathlib.Core.Bool.{Bool, true, false, cond, _&&_}
@@ -7,15 +7,14 @@ use native.Mathlib.Omega.{arith}
 use lib.Dec.{eqb}
 use lib.ListN.{length, take, getD}
 use lib.Seq.{take-at}
-use Rattle.octets.specs.Bytes.{Bytes, splice}
-use Rattle.octets.specs.NumberLaws.{Octets}
+use Rattle.octets.specs.Bytes.{Bytes, Octets, splice}
 use Rattle.octets.specs.BoolLaws.{holds, true-holds}
 use Rattle.definition.specs.Value.{CallValue}
 use Rattle.definition.specs.Parse.{parseCall}
-use Rattle.definition.specs.Station.{Station, Outcome, done, stopped, fresh, upFrom}
+use Rattle.definition.specs.Station.{Station, Outcome, done, stopped, fresh}
 use Rattle.definition.specs.Answer.{Answer, answerBytes}
 use Rattle.definition.specs.AnswerLaws.{size-blank}
-use Rattle.definition.specs.Book.{isLimit, bookBytes, freeFrom, freshBook}
+use Rattle.definition.specs.Book.{isLimit}
 use Rattle.definition.specs.BookReflectLaws.{limits-to}
 use Rattle.definition.specs.Opening.{Opened, opened, openOf}
 use Rattle.definition.specs.Perform.{perform}
@@ -25,7 +24,7 @@ use Rattle.definition.specs.PerformLaws.{listing}
 use Rattle.definition.specs.Fields.{LegalCall}
 use Rattle.definition.specs.ReadLaws.{call-legal}
 use Rattle.definition.specs.FieldLaws.{LegalStation, Answered, perform-legal, fresh-legalStation}
-use Rattle.definition.specs.Sound.{freeRecord, bookOf, encode, sound}
+use Rattle.definition.specs.Sound.{encode, sound}
 use Rattle.definition.specs.SoundLaws.{legal-reads, legal-sound}
 use Rattle.definition.specs.Blank.{blankStation, blankAnswer}
 use Rattle.definition.specs.BlindLaws.{blankOutcome}
@@ -47,24 +46,15 @@ replied b (m ∷ l) t = (t .0, subst (λ (c : Bytes). AtEach AsReplied l (run (m
 
 -- ---- a fresh register is a legal station's
 
-free-bytes : (i n : ℕ) → map freeRecord (upFrom i n) ≡ freeFrom i n
-unfolding upFrom freeFrom
-free-bytes i zero = refl
-free-bytes i (suc n) = ap (_∷_ (freeRecord i)) (free-bytes (suc i) n)
-
-fresh-bytes : (a h e : ℕ) → encode (fresh a h e) ≡ bookBytes (freshBook a h e)
-unfolding encode bookOf fresh freshBook
-fresh-bytes a h e = rw (free-bytes 1 (a + h + e))
-
 opened-fresh : (a h e : ℕ) (b : Bytes) → Fresh a h e b → LegalStation (fresh a h e) × (b ≡ encode (fresh a h e))
 unfolding openOf
 opened-fresh a h e b f =
     let p = go (isLimit a && (isLimit h && isLimit e)) (eqb (length (f .slice)) (1536 * (1 + (a + h + e)))) (f .opening) in
     let l = limits-to a h e (true-holds _ (p .0)) in
-    (fresh-legalStation a h e (l .0) (l .1) (l .2), sym (p .1) ∙ sym (fresh-bytes a h e))
+    (fresh-legalStation a h e (l .0) (l .1) (l .2), sym (p .1))
   where
-    go : (x y : Bool) → cond x (cond y (opened 0 (bookBytes (freshBook a h e))) (opened 21 (f .slice))) (opened 20 (f .slice)) ≡ opened 0 b →
-        (x ≡ true) × (bookBytes (freshBook a h e) ≡ b)
+    go : (x y : Bool) → cond x (cond y (opened 0 (encode (fresh a h e))) (opened 21 (f .slice))) (opened 20 (f .slice)) ≡ opened 0 b →
+        (x ≡ true) × (encode (fresh a h e) ≡ b)
     go true true q = (refl, ap (λ (o : Opened). o .register) q)
     go true false q = absurd (omega (arith, ap (λ (o : Opened). o .number) q))
     go false y q = absurd (omega (arith, ap (λ (o : Opened). o .number) q))

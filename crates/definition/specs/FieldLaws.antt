@@ -1,16 +1,15 @@
 -- Every step keeps legal fields legal.
 use Prim.Native.Nat.{ℕ, _≤_}
-use mathlib.Core.Path.{_≡_, refl}
+use mathlib.Core.Path.{_≡_}
 use mathlib.Core.List.{List, [], _∷_}
 use mathlib.Core.Bool.{Bool}
 use mathlib.Core.Option.{Option, none, some}
 use native.Mathlib.Omega.{arith}
 use lib.Dec.{eqb, ltb}
 use lib.ListN.{length}
-use Rattle.octets.specs.Bytes.{Bytes, digits}
-use Rattle.fips180.specs.Sha256.{sha256Of, digestOf}
-use Rattle.definition.specs.Value.{KeyValue, CallValue, RaiseValue, ClearValue, PlainValue, PolicyValue}
-use Rattle.definition.specs.Key.{keyOf}
+use Rattle.octets.specs.Bytes.{Bytes}
+use Rattle.definition.specs.KeyLaws.{length-key}
+use Rattle.definition.specs.Value.{CallValue, RaiseValue, ClearValue, PlainValue, PolicyValue}
 use Rattle.definition.specs.Chain.{Entry, present}
 use Rattle.definition.specs.Alarm.{Alarm, Event, hasId, sameIdentity}
 use Rattle.definition.specs.Station.{Station, fresh, Outcome, done, stopped, Step, forEach, onActive}
@@ -18,12 +17,14 @@ use Rattle.definition.specs.Answer.{Answer, Updated, answerBytes}
 use Rattle.definition.specs.Steps.{makeRoom, extendHistory, historyAfter, intoHistory, change, retire, store, storeNew, raiseAt, clearAt, Action, acknowledging, suppressing, actionAnswer, act, plainAt, plain, eventStored, eventLost, attempt, deny, allow, needsOverride, policyAt, policy, isDueEntry, retireDue, expire, raise, clear}
 use Rattle.definition.specs.Reports.{activeList, historyList, counts, summary, freeOne, takeAudit}
 use Rattle.definition.specs.Perform.{inRecord, inLength, perform}
-use Rattle.definition.specs.Legal.{Limit, Legal}
+use Rattle.definition.specs.Legal.{Legal}
 use Rattle.definition.specs.StepLaws.{lists}
-use Rattle.definition.specs.PerformLaws.{Parsed, listing, Kept, answered, refused, perform-kept, fresh-legal}
+use Rattle.definition.specs.StationLaws.{fresh-legal}
+use Rattle.definition.specs.PerformLaws.{Parsed, listing, Kept, answered, refused, perform-kept}
 use Rattle.definition.specs.Fields.{Time, Maybe, Each, KeyOf, LegalAlarm, LegalEvent, LegalFields, LegalRaise, LegalPolicy, LegalCall}
 use Rattle.definition.specs.KeepLaws.{each-first, each-those, Holds, holds, Keeps, Any, bind-keeps, then-keeps, give-keeps, refuse-keeps, look-keeps, cond-keeps, addActive-keeps, addHistory-keeps, addAudit-keeps, freeActive-keeps, freeOldestHistory-keeps, freeOldestAudit-keeps, changeActive-keeps, changeHistory-keeps, countSuccess-keeps, countFailure-keeps}
 use Rattle.definition.specs.ChangeLaws.{past, updated-legal, new-legal, cleared-legal, acted-legal, expired-legal, event-legal}
+use Rattle.definition.specs.BookLegal.{Limit}
 
 -- ---- the steps
 
@@ -162,10 +163,6 @@ inLength-keeps : (n : ℕ) (m : Step Answer) → Keeps Any m → Keeps Any (inLe
 unfolding inLength
 inLength-keeps n m p = bind-keeps _ p (λ a u. cond-keeps (ltb n (length (answerBytes a))) _ _ (refuse-keeps 30) (give-keeps Any a tt))
 
-length-key : (t : Bytes) (k : KeyValue) → length (keyOf t k) ≡ 16
-unfolding keyOf sha256Of digestOf digits
-length-key t k = refl
-
 raise-keeps : (c : RaiseValue) → LegalRaise c → Keeps Any (raise c)
 unfolding raise
 raise-keeps c r = bind-keeps _ (onActive-keeps _) (raiseAt-keeps c _ r (length-key _ _))
@@ -174,7 +171,7 @@ clear-keeps : (c : ClearValue) → Time (c .time) → Keeps Any (clear c)
 unfolding clear
 clear-keeps c h = bind-keeps _ (onActive-keeps _) (clearAt-keeps c _ h)
 
-pub perform-keeps : (c : CallValue) (n : ℕ) → LegalCall c → Keeps Any (perform c n)
+perform-keeps : (c : CallValue) (n : ℕ) → LegalCall c → Keeps Any (perform c n)
 unfolding perform
 perform-keeps (CallValue.raise c) n h = inRecord-keeps n _ (raise-keeps c h)
 perform-keeps (CallValue.clear c) n h = inRecord-keeps n _ (clear-keeps c h)
@@ -201,7 +198,7 @@ abbrev pub Answered : Bool → Station → Outcome Answer → Type 0
 Answered b s (done a t) = LegalStation t × (lists a ≡ b)
 Answered b s (stopped n) = n ≤ 31
 
-pub parsed : (c : CallValue) → LegalCall c → Parsed c
+parsed : (c : CallValue) → LegalCall c → Parsed c
 parsed (CallValue.raise c) h = tt
 parsed (CallValue.clear c) h = tt
 parsed (CallValue.acknowledge p) h = tt

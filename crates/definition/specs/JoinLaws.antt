@@ -9,7 +9,7 @@ use lib.Dec.{T}
 use lib.ListN.{length, take, drop, getD, set, length-append, length-take, length-drop, take-append-drop, drop-of-length-le}
 use lib.Seq.{take-at, drop-at, drop-drop, drop-append-add, take-append-add}
 use Rattle.octets.specs.Bytes.{Bytes, same, splice}
-use Rattle.octets.specs.BoolLaws.{and-true, and-assoc, and-comm, both, both-left, both-right}
+use Rattle.octets.specs.BoolLaws.{and-true, and-assoc, and-comm, both-left, both-right}
 use Rattle.octets.specs.SameLaws.{same-append}
 use Rattle.octets.specs.SpliceLaws.{length-splice, splice-none, splice-two}
 use Rattle.definition.specs.Slot.{join, cut, total, allOf}
@@ -160,13 +160,6 @@ test-at [] zero t = tt
 test-at [] (suc i) t = tt
 test-at (x ∷ xs) zero t = both-left x (allOf xs) t
 test-at (x ∷ xs) (suc i) t = test-at xs i (both-right x (allOf xs) t)
-
--- one test is replaced
-pub all-set : (xs : List Bool) (k : ℕ) (y : Bool) → T (allOf xs) → T y → T (allOf (set xs k y))
-all-set [] zero y t u = tt
-all-set [] (suc k) y t u = tt
-all-set (x ∷ xs) zero y t u = both y (allOf xs) u (both-right x (allOf xs) t)
-all-set (x ∷ xs) (suc k) y t u = both x (allOf (set xs k y)) (both-left x (allOf xs) t) (all-set xs k y (both-right x (allOf xs) t) u)
 
 -- tests joined from the left
 abbrev pub joined : Bool → List Bool → Bool

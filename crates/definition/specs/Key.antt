@@ -50,11 +50,11 @@ parts (dataPlaneQueue a b q) = record { kind = 8; tag = ascii "DataPlaneQueue"; 
 
 -- ---- "type; cause name; kind's tag and strings (queue in decimal digits); tenant?, slice?, region?"
 
-abbrev pub fedShard : Option (Option Bytes) → Bytes
+abbrev fedShard : Option (Option Bytes) → Bytes
 fedShard none = []
 fedShard (some h) = optional h
 
-abbrev pub fedQueue : Option ℕ → Bytes
+abbrev fedQueue : Option ℕ → Bytes
 fedQueue none = []
 fedQueue (some q) = string (decimal q)
 

@@ -1,27 +1,14 @@
--- Legal registers: limits, lengths, and each of the records 1, 2, .. on exactly one chain.
+-- Legal stations as propositions, which proofs carry: limits, lengths, and each of the records 1, 2, .. on exactly one chain.
 use Prim.Native.Nat.{ℕ, _+_, _≤_, _<_}
 use mathlib.Core.Path.{_≡_}
-use mathlib.Core.List.{List, [], _∷_}
-use mathlib.Core.Bool.{cond}
-use lib.Dec.{eqb}
 use lib.ListN.{length}
-use Rattle.definition.specs.Chain.{Entry}
-use Rattle.definition.specs.Station.{Station, upFrom}
+use Rattle.definition.specs.Chain.{upFrom, times, timesIn}
+use Rattle.definition.specs.Station.{Station}
+use Rattle.definition.specs.BookLegal.{Limit}
 
--- how often i is among some indices, and on a chain
-unfoldable pub timesIn : ℕ → List ℕ → ℕ
-timesIn i [] = 0
-timesIn i (j ∷ l) = cond (eqb j i) 1 0 + timesIn i l
-
-unfoldable pub times : {A : Type 0} → ℕ → List (Entry A) → ℕ
-times i [] = 0
-times i (e ∷ c) = cond (eqb (e .index) i) 1 0 + times i c
-
+-- how many records there are beside the header
 abbrev pub records : Station → ℕ
 records s = s .limitA + s .limitH + s .limitE
-
-abbrev pub Limit : ℕ → Type 0
-Limit n = (1 ≤ n) × (n ≤ 65535)
 
 pub record Legal (s : Station) : Type 0 where
   pub limits : Limit (s .limitA) × Limit (s .limitH) × Limit (s .limitE)

@@ -12,7 +12,11 @@ pub mod Parse
 pub mod Key
 pub mod KeyLaws
 pub mod StringLaws
+pub mod Chain
 pub mod Book
+pub mod BookLegal
+pub mod Moves
+pub mod TimesLaws
 pub mod Opening
 pub mod BookChainLaws
 pub mod BookSplitLaws
@@ -22,14 +26,13 @@ pub mod BookWithLaws
 pub mod BookRelinkLaws
 pub mod BookMoveLaws
 pub mod BookReadLaws
-pub mod BookMovedLaws
 pub mod BookSoundLaws
 pub mod BookCarryLaws
 pub mod BookAppendLaws
 pub mod BookReleaseLaws
 pub mod BookReplaceLaws
 pub mod BookCountLaws
-pub mod BookCheckLaws
+pub mod BookCheck
 pub mod BookPathLaws
 pub mod BookSumLaws
 pub mod BookSoundnessLaws
@@ -41,7 +44,6 @@ pub mod BookStepLaws
 pub mod BookOpeningLaws
 pub mod Table
 pub mod TableCauses
-pub mod Chain
 pub mod Alarm
 pub mod Station
 pub mod ChainLaws
@@ -76,6 +78,7 @@ pub mod TwinLaws
 pub mod TestLaws
 pub mod StationLaws
 pub mod SoundLaws
+pub mod Does
 pub mod MoveLaws
 pub mod Lists
 pub mod Mask

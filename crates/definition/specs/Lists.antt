@@ -18,7 +18,7 @@ pub record Reply : Type 0 where
   pub register : Bytes
 
 -- "A refusal returns its number and length 0; register and answer are unchanged"
-abbrev pub refused : ℕ → Bytes → Reply
+abbrev refused : ℕ → Bytes → Reply
 refused n b = record { number = n; length = 0; answer = []; register = b }
 
 -- "Every other call returns 0 and the answer's length"

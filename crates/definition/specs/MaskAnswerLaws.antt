@@ -5,22 +5,18 @@ use mathlib.Core.List.{List, [], _∷_, _++_, map, append-assoc, append-nil}
 use mathlib.Core.Bool.{cond}
 use native.Mathlib.Omega.{arith}
 use lib.ListN.{length, getD, length-append}
-use Rattle.octets.specs.Bytes.{Bytes, zeros, splice, be32, digits}
+use Rattle.octets.specs.Bytes.{Bytes, zeros, splice, be32}
 use Rattle.octets.specs.NumberLaws.{length-be32, length-zeros}
 use Rattle.octets.specs.SpliceLaws.{splice-append, splice-front}
 use Rattle.definition.specs.Alarm.{Alarm}
 use Rattle.definition.specs.Record.{alarmBytes}
 use Rattle.definition.specs.Answer.{Answer, Raised, Updated, Cleared, ClearWithoutActive, ActiveLimitExceeded, Suppressed, Acknowledged, Unauthorized, AuditFailed, NotFound, Expired, Alarms, Counts, Summary, Events, Head, headBytes, headOf, alarmRecord, alarmRecords, answerBytes}
-use Rattle.definition.specs.AnswerLaws.{length-alarmRecord, length-alarmRecords}
+use Rattle.definition.specs.AnswerLaws.{length-head, length-alarmRecord, length-alarmRecords}
 use Rattle.definition.specs.ChainLaws.{length-map}
 use Rattle.definition.specs.StepLaws.{lists}
 use Rattle.definition.specs.Blank.{blank, blankAnswer}
 use Rattle.definition.specs.Mask.{textsAt, textsWidth, maskRecord, maskRecords, listsRecords, holdsRecord, maskAnswer}
 use Rattle.definition.specs.MaskLaws.{mask-payload}
-
-length-head : (h : Head) → length (headBytes h) ≡ 16
-unfolding digits
-length-head h = refl
 
 -- ---- records behind some bytes
 

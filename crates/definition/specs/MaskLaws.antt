@@ -10,14 +10,14 @@ use Rattle.octets.specs.Bytes.{Bytes, zeros, splice}
 use Rattle.octets.specs.NumberLaws.{length-zeros, zeros-append}
 use Rattle.octets.specs.PartLaws.{part-length}
 use Rattle.octets.specs.SpliceLaws.{length-splice, splice-append, splice-front, splice-whole, splice-two}
-use Rattle.definition.specs.Chain.{Entry, entry, onContent}
+use Rattle.definition.specs.Chain.{Entry, entry, onContent, times}
 use Rattle.definition.specs.Alarm.{Alarm}
 use Rattle.definition.specs.Record.{alarmBytes}
 use Rattle.definition.specs.RecordLaws.{length-alarm}
 use Rattle.definition.specs.WriteLaws.{mask-alarm}
-use Rattle.definition.specs.Book.{Record, Book, chain, withChain, times, bookBytes}
-use Rattle.definition.specs.BookChainLaws.{Sized, sized-append, sized-front, sized-back, times-append}
-use Rattle.definition.specs.BookLegalLaws.{Legal, fair}
+use Rattle.definition.specs.Book.{Record, Book, bookBytes}
+use Rattle.definition.specs.BookChainLaws.{sized-append, sized-front, sized-back}
+use Rattle.definition.specs.BookLegalLaws.{fair}
 use Rattle.definition.specs.BookWithLaws.{with-self, chain-same}
 use Rattle.definition.specs.BookRelinkLaws.{length-bytes}
 use Rattle.definition.specs.BookReadLaws.{index-range, read-payload, read-bytes}
@@ -29,6 +29,9 @@ use Rattle.definition.specs.StationLaws.{book-legal}
 use Rattle.definition.specs.ChainLaws.{length-map}
 use Rattle.definition.specs.Blank.{blank, blankEntry, blankStation}
 use Rattle.definition.specs.Mask.{textsWidth, maskRecord, maskChain, maskRegister}
+use Rattle.definition.specs.BookLegal.{Sized, Legal, chain}
+use Rattle.definition.specs.TimesLaws.{times-append}
+use Rattle.definition.specs.Moves.{withChain}
 
 -- ---- a splice within a part is a splice of the whole part
 

@@ -8,10 +8,10 @@ use native.Mathlib.Decide.{ℕ-discrete}
 use borrow.Author.Tests.{ne-eqb}
 use lib.Dec.{T, eqb}
 use lib.ListN.{length, take, drop, getD, length-take, length-drop}
-use Rattle.octets.specs.Bytes.{Bytes, same, zeros, blank, digits, value}
+use Rattle.octets.specs.Bytes.{Bytes, Octets, same, zeros, blank, digits, value}
 use Rattle.octets.specs.BoolLaws.{and-false, and-true, both-left, both-right}
 use Rattle.octets.specs.SameLaws.{same-refl, ne→same}
-use Rattle.octets.specs.NumberLaws.{Octets, length-zeros, length-digits}
+use Rattle.octets.specs.NumberLaws.{length-zeros, length-digits}
 use Rattle.definition.specs.Utf8.{utf8}
 use Rattle.definition.specs.Limits.{shortLimit}
 use Rattle.definition.specs.Value.{ObjectValue, nfInstance, interface, peer, sessionStore, slice, tenant, certificate, dataPlaneQueue}
@@ -26,7 +26,7 @@ is-short = is-string shortLimit utf8 (omega arith)
 object-fits : (k : ℕ) (a x : Bytes) (q : ℕ) → length x ≡ 67 → Fits objectWidths (objectParts k a x q)
 object-fits k a x q h = (refl, (is-short .len a, (h, (length-digits 2 q, tt))))
 
-pub parts-fit : (o : ObjectValue) → Fits objectWidths (partsOf o)
+parts-fit : (o : ObjectValue) → Fits objectWidths (partsOf o)
 parts-fit (nfInstance a b) = object-fits 1 a (0 ∷ short .put b) 0 (ap suc (is-short .len b))
 parts-fit (interface a b) = object-fits 2 a (0 ∷ short .put b) 0 (ap suc (is-short .len b))
 parts-fit (peer a b) = object-fits 3 a (0 ∷ short .put b) 0 (ap suc (is-short .len b))

@@ -5,7 +5,9 @@ use lib.Dec.{eqb}
 use lib.ListN.{length}
 use Rattle.octets.specs.Bytes.{Bytes}
 use Rattle.definition.specs.Limits.{recordWidth}
-use Rattle.definition.specs.Book.{isLimit, bookBytes, freshBook}
+use Rattle.definition.specs.Book.{isLimit}
+use Rattle.definition.specs.Station.{fresh}
+use Rattle.definition.specs.Sound.{encode}
 
 pub record Opened : Type 0 where
   pub number : ℕ
@@ -19,5 +21,5 @@ opened n b = record { number = n; register = b }
 unfoldable pub openOf : ℕ → ℕ → ℕ → Bytes → Opened
 openOf a h e b =
     cond (isLimit a && (isLimit h && isLimit e))
-    (cond (eqb (length b) (recordWidth * (1 + (a + h + e)))) (opened 0 (bookBytes (freshBook a h e))) (opened 21 b))
+    (cond (eqb (length b) (recordWidth * (1 + (a + h + e)))) (opened 0 (encode (fresh a h e))) (opened 21 b))
     (opened 20 b)

@@ -1,19 +1,19 @@
 -- A call on a legal station leaves it legal, and never meets the end of the free chain.
-use Prim.Native.Nat.{ℕ, zero, suc, _+_, _≤_, _<_}
-use mathlib.Core.Path.{_≡_, refl, ap}
+use Prim.Native.Nat.{ℕ, _≤_, _<_}
 use mathlib.Core.Bool.{Bool, true, false, cond}
 use native.Mathlib.Omega.{arith}
 use lib.Dec.{ltb}
 use lib.ListN.{length}
 use Rattle.definition.specs.Value.{CallValue, RaiseValue, ClearValue}
-use Rattle.definition.specs.Station.{Station, fresh, upFrom, Outcome, done, stopped, Step, after, _>>=_, give, refuse}
+use Rattle.definition.specs.Station.{Station, Outcome, done, stopped, Step, after, _>>=_, give, refuse}
 use Rattle.definition.specs.Answer.{Answer, answerBytes}
 use Rattle.definition.specs.Steps.{acknowledging, suppressing, expire, raise, clear}
 use Rattle.definition.specs.Reports.{counts, summary, takeAudit}
 use Rattle.definition.specs.Perform.{inRecord, inLength, perform}
-use Rattle.definition.specs.Legal.{times, Limit, Legal}
-use Rattle.definition.specs.LegalLaws.{first-found, Ends, ok, EndsOr31, ends, idTaken}
+use Rattle.definition.specs.Legal.{Legal}
+use Rattle.definition.specs.LegalLaws.{Ends, ok, EndsOr31, ends, idTaken}
 use Rattle.definition.specs.StepLaws.{Balanced, raiseAt-legal, clearAt-legal, plain-legal, policy-legal, expire-legal, takeAudit-legal, activeList-legal, historyList-legal, counts-legal, summary-legal}
+use Rattle.definition.specs.TimesLaws.{first-found}
 
 -- ---- calls
 
@@ -105,26 +105,3 @@ perform-kept CallValue.counts n s p l = kept-length n _ (counts-legal s l)
 perform-kept CallValue.summary n s p l = kept-record n _ (kept-ends (summary-legal s l))
 perform-kept (CallValue.takeAudit k) n s p l = kept-length n _ (takeAudit-legal k s l)
 perform-kept (CallValue.refused k) n s p l = refused {n = k} (omega arith)
-
--- ---- a fresh register is legal
-
-length-upFrom : (i n : ℕ) → length (upFrom i n) ≡ n
-unfolding upFrom
-length-upFrom i zero = refl
-length-upFrom i (suc n) = ap suc (length-upFrom (suc i) n)
-
-fresh-empty : (a h e : ℕ) → length (fresh a h e .active) ≡ 0
-unfolding fresh
-fresh-empty a h e = refl
-
-pub fresh-legal : (a h e : ℕ) → Limit a → Limit h → Limit e → Legal (fresh a h e)
-unfolding fresh times
-fresh-legal a h e p q r = record {
-  limits = (p, q, r);
-  activeFits = omega arith;
-  historyFits = omega arith;
-  auditFits = omega arith;
-  filled = omega (arith, length-upFrom 1 (a + h + e));
-  once = λ i. omega arith;
-  counters = (omega arith, omega arith);
-}

@@ -8,9 +8,9 @@ use native.Mathlib.Omega.{arith}
 use lib.Dec.{leb, eqb}
 use lib.ListN.{length, take, drop, length-take}
 use borrow.Author.Tests.{leb-true}
-use Rattle.octets.specs.Bytes.{Bytes}
+use Rattle.octets.specs.Bytes.{Bytes, Octets}
 use Rattle.octets.specs.BoolLaws.{both-right, holds, true-holds}
-use Rattle.octets.specs.NumberLaws.{Octets, octets-take, octets-drop, octets-tail, value-lt}
+use Rattle.octets.specs.NumberLaws.{octets-take, octets-drop, octets-tail, value-lt}
 use Rattle.definition.specs.Limits.{shortLimit, causeLimit, regionLimit, textLimit, detailsLimit}
 use Rattle.definition.specs.Utf8.{utf8}
 use Rattle.definition.specs.Cause.{causeOf}

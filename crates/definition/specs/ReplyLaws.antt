@@ -1,29 +1,15 @@
 -- What the code of an operation promises, and the reply that the definition gives: they agree.
 use Prim.Native.Nat.{ℕ}
-use mathlib.Core.Path.{_≡_, refl, sym, _∙_}
-use lib.ListN.{length}
-use Rattle.octets.specs.Bytes.{Bytes, splice}
+use mathlib.Core.Path.{refl, sym, _∙_}
+use Rattle.octets.specs.Bytes.{Bytes}
 use Rattle.octets.specs.SpliceLaws.{splice-none}
-use Rattle.definition.specs.Station.{Step, stopped}
-use Rattle.definition.specs.Answer.{Answer, answerBytes}
+use Rattle.definition.specs.Station.{Step}
+use Rattle.definition.specs.Answer.{Answer}
 use Rattle.definition.specs.Sound.{station}
 use Rattle.definition.specs.SoundLaws.{sound-holds}
-use Rattle.definition.specs.MoveLaws.{Does}
 use Rattle.definition.specs.Lists.{replyOf}
-pub use Rattle.definition.specs.Claim.{Gives}
-
--- the step m is done from the register b to b′, and its answer stands at the front of the answer slice, which was a and is a′; n is its length
-pub record Answers (m : Step Answer) (b b′ a a′ : Bytes) (n : ℕ) : Type 0 where
-  pub value : Answer
-  pub does : Does m b b′ value
-  pub size : n ≡ length (answerBytes value)
-  pub bytes : a′ ≡ splice a 0 (answerBytes value)
-
--- the step m is refused with the number k, and nothing changes
-pub record Refuses (m : Step Answer) (b b′ a a′ : Bytes) (k : ℕ) : Type 0 where
-  pub stops : m (station b) ≡ stopped k
-  pub register : b′ ≡ b
-  pub answer : a′ ≡ a
+use Rattle.definition.specs.Claim.{Gives}
+use Rattle.definition.specs.Does.{Answers, Refuses}
 
 pub answers-give : (m : Step Answer) (b b′ a a′ : Bytes) (n : ℕ) → Answers m b b′ a a′ n → Gives (replyOf b (m (station b))) a 0 n a′ b′
 answers-give m b b′ a a′ n x =

@@ -81,10 +81,12 @@ unfoldable pub cut : ℕ → List ℕ → Bytes → List Bytes
 cut at [] b = []
 cut at (w ∷ ws) b = take w (drop at b) ∷ cut (at + w) ws b
 
+-- the sum of the widths
 abbrev pub total : List ℕ → ℕ
 total [] = 0
 total (w ∷ ws) = w + total ws
 
+-- every test holds
 abbrev pub allOf : List Bool → Bool
 allOf [] = true
 allOf (x ∷ xs) = x && allOf xs

@@ -10,11 +10,11 @@ use borrow.Author.Tests.{eq-eqb, ne-eqb, lt-ltb, le-leb, ltb-true, leb-true, eqb
 use lib.Dec.{T, leb}
 use lib.ListN.{length, take, drop, getD, length-append, length-take, length-drop, take-append-drop}
 use lib.Seq.{take-at, drop-at, length-take-le, take-all, getD-take, getD-drop}
-use Rattle.octets.specs.Bytes.{Bytes, same, zeros, pad, blank, digits, value, numberAt}
+use Rattle.octets.specs.Bytes.{Bytes, Octets, same, zeros, pad, blank, digits, value, numberAt}
 use Rattle.octets.specs.BoolLaws.{and-false, and-true, both, both-left, both-right, holds, true-holds}
 use Rattle.octets.specs.SameLaws.{same-append, same-refl, same→eq, eq→same, ne→same}
 use Rattle.octets.specs.PartLaws.{part-length, part-drop, part-front}
-use Rattle.octets.specs.NumberLaws.{Octets, length-zeros, length-pad, pad-fits, take-pad, pad-whole, length-digits, value-digits, digits-value, value-lt, octets-take, octets-drop}
+use Rattle.octets.specs.NumberLaws.{length-zeros, length-pad, pad-fits, take-pad, pad-whole, length-digits, value-digits, digits-value, value-lt, octets-take, octets-drop}
 use Rattle.definition.specs.Slot.{Slot, Field, sound, raw, spare, upTo, number, string, option, cut, allOf, widths, pieces, tests, fields}
 use Rattle.definition.specs.JoinLaws.{Fits, length-join, cut-join, matches, same-join, zipped, all-zipped}
 
@@ -47,9 +47,6 @@ is-raw n = record { len = length-pad n; back = λ a t. pad-whole n a (eqb-true (
 
 pub is-spare : (n : ℕ) → Lawful (spare n)
 is-spare n = record { len = λ _. length-zeros n; back = λ a t. refl }
-
-pub is-upTo : (m : ℕ) → Lawful (upTo m)
-is-upTo m = record { len = λ _. refl; back = λ a t. refl }
 
 pub is-number : (n : ℕ) → Lawful (number n)
 is-number n = record { len = length-digits n; back = λ a t. value-digits n a (ltb-true a (256 ^ n) (holds _ t)) }
@@ -116,7 +113,7 @@ sound-number n b h o =
 
 module _ (n : ℕ) (good : Bytes → Bool) (b : Bytes) (size : length b ≡ 2 + n) where
   -- a length within the room: the string is good, and zeros follow
-  pub string-fits : digits 2 (value (take 2 b)) ≡ take 2 b → value (take 2 b) ≤ n → sound (string n good) b ≡ good (take (value (take 2 b)) (drop 2 b)) && blank (drop (value (take 2 b)) (drop 2 b))
+  string-fits : digits 2 (value (take 2 b)) ≡ take 2 b → value (take 2 b) ≤ n → sound (string n good) b ≡ good (take (value (take 2 b)) (drop 2 b)) && blank (drop (value (take 2 b)) (drop 2 b))
   unfolding sound blank
   string-fits stated h =
       let m = value (take 2 b) in
@@ -134,7 +131,7 @@ module _ (n : ℕ) (good : Bytes → Bool) (b : Bytes) (size : length b ≡ 2 + 
       rw (q, le-leb (length g) n (omega arith))
 
   -- a length above it
-  pub string-long : n < 65536 → n < value (take 2 b) → sound (string n good) b ≡ false
+  string-long : n < 65536 → n < value (take 2 b) → sound (string n good) b ≡ false
   unfolding sound
   string-long h65 h =
       let m = value (take 2 b) in

@@ -2,17 +2,13 @@
 use Prim.Native.Nat.{ℕ}
 use mathlib.Core.List.{map}
 use mathlib.Core.Bool.{Bool, _&&_}
-use Rattle.octets.specs.Bytes.{Bytes, zeros}
-use Rattle.definition.specs.Chain.{onContent, entry}
+use Rattle.octets.specs.Bytes.{Bytes}
+use Rattle.definition.specs.Chain.{onContent}
 use Rattle.definition.specs.Record.{lastActive, lastState, alarmBytes, readAlarm, soundAlarm, eventBytes, readEvent, soundEvent}
-use Rattle.definition.specs.Book.{Record, payloadWidth, Book, bookBytes, readBook, every, soundBook}
+use Rattle.definition.specs.Book.{Record, Book, bookBytes, readBook, every, soundBook, freeRecord}
 use Rattle.definition.specs.Station.{Station}
 
 -- ---- a station in bytes
-
--- "a freed record is zeroed"
-abbrev pub freeRecord : ℕ → Record
-freeRecord i = entry i (zeros payloadWidth)
 
 -- each alarm and event in the bytes of its record
 unfoldable pub bookOf : Station → Book
@@ -29,6 +25,7 @@ bookOf s =
       failures = s .failures;
     }
 
+-- the register's bytes
 unfoldable pub encode : Station → Bytes
 encode s = bookBytes (bookOf s)
 
@@ -37,6 +34,7 @@ encode s = bookBytes (bookOf s)
 abbrev pub indexOf : Record → ℕ
 indexOf e = e .index
 
+-- each alarm and event as its payload is read
 unfoldable pub stationOf : Book → Station
 stationOf b =
     record {
@@ -60,13 +58,14 @@ station s = stationOf (readBook s)
 abbrev pub holdsAlarm : ℕ → Record → Bool
 holdsAlarm top e = soundAlarm top (e .content)
 
-abbrev pub holdsEvent : Record → Bool
+abbrev holdsEvent : Record → Bool
 holdsEvent e = soundEvent (e .content)
 
 -- "each alarm's fields legal as a raise's", "active chain states active"
 abbrev pub activeSound : Book → Bool
 activeSound b = every (holdsAlarm lastActive) (b .active)
 
+-- any of the six states in history
 abbrev pub historySound : Book → Bool
 historySound b = every (holdsAlarm lastState) (b .history)
 
@@ -77,5 +76,6 @@ auditSound b = every holdsEvent (b .audit)
 unfoldable pub soundRecords : Book → Bool
 soundRecords b = activeSound b && (historySound b && auditSound b)
 
+-- the chains and the header, and every payload
 unfoldable pub sound : Bytes → Bool
 sound s = soundBook s && soundRecords (readBook s)

@@ -12,15 +12,15 @@ use Rattle.definition.specs.Record.{alarmBytes, readAlarm, soundAlarm, e
 use Rattle.definition.specs.RecordLaws.{read-alarm, sound-legal-alarm, legal-sound-alarm, read-event, sound-legal-event, legal-sound-event}
 use Rattle.definition.specs.Fields.{Each, LegalAlarm, LegalEvent, LegalFields}
 use Rattle.definition.specs.TestLaws.{says-alarm, says-event}
-use Rattle.definition.specs.Book.{Record, Book, bookBytes, readBook, every, soundBook}
-use Rattle.definition.specs.BookChainLaws.{Blank}
-use Rattle.definition.specs.BookLegalLaws as L
+use Rattle.definition.specs.Book.{Record, Book, bookBytes, readBook, every, soundBook, freeRecord}
+use Rattle.definition.specs.BookLegal as L
 use Rattle.definition.specs.BookReadLaws.{read-bytes, sound-bytes}
 use Rattle.definition.specs.BookReflectLaws.{sound-to, sound-from}
 use Rattle.definition.specs.Station.{Station}
-use Rattle.definition.specs.Sound.{freeRecord, bookOf, encode, indexOf, stationOf, station, activeSound, historySound, auditSound, soundRecords, sound}
+use Rattle.definition.specs.Sound.{bookOf, encode, indexOf, stationOf, station, activeSound, historySound, auditSound, soundRecords, sound}
 use Rattle.definition.specs.FieldLaws.{LegalStation}
 use Rattle.definition.specs.StationLaws.{book-legal, station-legal}
+use Rattle.definition.specs.BookLegal.{Blank}
 
 -- ---- what a record holds: how it is written, read and tested
 

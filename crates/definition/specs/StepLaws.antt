@@ -10,16 +10,17 @@ use lib.ListN.{length, take}
 use borrow.Author.Tests.{leb-true, leb-false}
 use Rattle.octets.specs.Bytes.{Bytes}
 use Rattle.definition.specs.Value.{RaiseValue, ClearValue, PlainValue, PolicyValue}
-use Rattle.definition.specs.Chain.{Entry, present, those, first, newest, without}
+use Rattle.definition.specs.Chain.{Entry, present, those, first, newest, without, timesIn, times}
 use Rattle.definition.specs.Alarm.{Alarm, Event, hasId, sameIdentity}
 use Rattle.definition.specs.Station.{Station, Outcome, done, Step, _>>=_, give, refuse, forEach, freeOldestHistory}
-use Rattle.definition.specs.Answer.{Answer, Raised, Updated, Cleared, ClearWithoutActive, ActiveLimitExceeded, Suppressed, Acknowledged, Unauthorized, AuditFailed, NotFound, Expired, Alarms, Counts, Summary, Events, headOf}
+use Rattle.definition.specs.Answer.{Answer, Raised, Updated, Cleared, ClearWithoutActive, ActiveLimitExceeded, Suppressed, Acknowledged, Unauthorized, AuditFailed, NotFound, Expired, Alarms, Counts, Summary, Events}
 use Rattle.definition.specs.Steps.{makeRoom, extendHistory, historyAfter, intoHistory, change, retire, newAlarm, store, storeNew, raiseAt, clearAt, Action, acknowledging, suppressing, actionAnswer, act, plainAt, plain, eventStored, eventLost, attempt, deny, allow, needsOverride, policyAt, policy, expiredBy, isDueEntry, retireDue, expire}
 use Rattle.definition.specs.Reports.{activeList, historyList, counts, summary, freeOne, takeAudit}
-use Rattle.definition.specs.Legal.{timesIn, times, Legal}
-use Rattle.definition.specs.LegalLaws.{on-chain, Found, times-without, length-without, Ends, ok, EndsOr31, ends, idTaken, ends-after, ends-weaken, Aside, addActive-legal, addHistory-legal, addAudit-legal, freeActive-legal, freeOldestHistory-legal, freeOldestAudit-legal, changeActive-legal, changeHistory-legal, countSuccess-legal, countFailure-legal}
+use Rattle.definition.specs.Legal.{Legal}
+use Rattle.definition.specs.LegalLaws.{Ends, ok, EndsOr31, ends, idTaken, ends-after, ends-weaken, Aside, addActive-legal, addHistory-legal, addAudit-legal, freeActive-legal, freeOldestHistory-legal, freeOldestAudit-legal, changeActive-legal, changeHistory-legal, countSuccess-legal, countFailure-legal}
+use Rattle.definition.specs.TimesLaws.{on-chain, Found, times-without, length-without}
 
-pub cond-ends : {A : Type 0} {Q : A → Station → Type 0} {s : Station} (b : Bool) (m n : Step A) → Ends Q (m s) → Ends Q (n s) → Ends Q (cond b m n s)
+cond-ends : {A : Type 0} {Q : A → Station → Type 0} {s : Station} (b : Bool) (m n : Step A) → Ends Q (m s) → Ends Q (n s) → Ends Q (cond b m n s)
 cond-ends true m n p q = p
 cond-ends false m n p q = q
 
@@ -48,65 +49,44 @@ module _ (s : Station) (l : Legal s) where
   historyAfter-legal a none = extendHistory-legal a
   historyAfter-legal a (some e) = cond-ends (sameIdentity (e .content) a) _ _ (changeHistory-legal s l (e .index) a) (extendHistory-legal a)
 
-  pub intoHistory-legal : (a : Alarm) → Ends (λ u t. Aside s t) (intoHistory a s)
+  intoHistory-legal : (a : Alarm) → Ends (λ u t. Aside s t) (intoHistory a s)
   unfolding intoHistory _>>=_
   intoHistory-legal a = historyAfter-legal a (newest (s .history))
 
--- ---- what an answer says of the active length
+-- ---- what an answer says: how many alarms came onto the active chain, how many went off it, and whether alarms are listed, as 8 and 9 do
 
-abbrev pub raisedOf : Answer → ℕ
-raisedOf x = cond (eqb (headOf x .code) 1) 1 0
+abbrev pub said : Answer → ℕ × ℕ × Bool
+said (Raised a) = (1, 0, false)
+said (Updated a) = (0, 0, false)
+said (Cleared i) = (0, 1, false)
+said (ClearWithoutActive k c) = (0, 0, false)
+said (ActiveLimitExceeded k n) = (0, 0, false)
+said (Suppressed a) = (0, 0, false)
+said (Acknowledged a) = (0, 0, false)
+said (Unauthorized m) = (0, 0, false)
+said (AuditFailed m) = (0, 0, false)
+said (NotFound i) = (0, 0, false)
+said (Expired n) = (0, n, false)
+said (Alarms l) = (0, 0, true)
+said (Counts l) = (0, 0, false)
+said (Summary t) = (0, 0, false)
+said (Events l) = (0, 0, false)
 
-abbrev pub clearedOf : Answer → ℕ
-clearedOf x = cond (eqb (headOf x .code) 3) 1 0
-
--- the number of an expire call
-abbrev pub expiredOf : Answer → ℕ
-expiredOf (Raised a) = 0
-expiredOf (Updated a) = 0
-expiredOf (Cleared i) = 0
-expiredOf (ClearWithoutActive k c) = 0
-expiredOf (ActiveLimitExceeded k n) = 0
-expiredOf (Suppressed a) = 0
-expiredOf (Acknowledged a) = 0
-expiredOf (Unauthorized m) = 0
-expiredOf (AuditFailed m) = 0
-expiredOf (NotFound i) = 0
-expiredOf (Expired n) = n
-expiredOf (Alarms l) = 0
-expiredOf (Counts l) = 0
-expiredOf (Summary t) = 0
-expiredOf (Events l) = 0
-
--- an answer of operations 8 and 9
 abbrev pub lists : Answer → Bool
-lists (Raised a) = false
-lists (Updated a) = false
-lists (Cleared i) = false
-lists (ClearWithoutActive k c) = false
-lists (ActiveLimitExceeded k n) = false
-lists (Suppressed a) = false
-lists (Acknowledged a) = false
-lists (Unauthorized m) = false
-lists (AuditFailed m) = false
-lists (NotFound i) = false
-lists (Expired n) = false
-lists (Alarms l) = true
-lists (Counts l) = false
-lists (Summary t) = false
-lists (Events l) = false
+lists x = said x .2
 
+-- the active length moves by what is answered
 pub record Balanced (b : Bool) (s : Station) (x : Answer) (t : Station) : Type 0 where
   pub legal : Legal t
   pub kind : lists x ≡ b
-  pub even : length (s .active) + raisedOf x ≡ length (t .active) + clearedOf x + expiredOf x
+  pub even : length (s .active) + said x .0 ≡ length (t .active) + said x .1
 
 -- an answer that says nothing of it
-abbrev pub Neutral : Bool → Answer → Type 0
-Neutral b x = (raisedOf x ≡ 0) × (clearedOf x ≡ 0) × (expiredOf x ≡ 0) × (lists x ≡ b)
+abbrev Neutral : Bool → Answer → Type 0
+Neutral b x = said x ≡ (0, 0, b)
 
 neutral : {s : Station} {b : Bool} (x : Answer) (t : Station) → Neutral b x → Legal t → length (t .active) ≡ length (s .active) → Balanced b s x t
-neutral x t h l e = record { legal = l; kind = h .3; even = omega (arith, h .0, h .1, h .2) }
+neutral x t h l e = record { legal = l; kind = ap (λ (k : ℕ × ℕ × Bool). k .2) h; even = omega (arith, ap (λ (k : ℕ × ℕ × Bool). k .0) h, ap (λ (k : ℕ × ℕ × Bool). k .1) h) }
 
 abbrev still : {b : Bool} (x : Answer) (s : Station) → Neutral b x → Legal s → Ends (Balanced b s) (done x s)
 still x s h l = ok (neutral x s h l refl)
@@ -142,22 +122,22 @@ module _ (s : Station) (l : Legal s) where
 
   pub raiseAt-legal : (c : RaiseValue) (k : Bytes) (o : Option (Entry Alarm)) → EndsOr31 (Balanced false s) (raiseAt c k o s)
   unfolding raiseAt _>>=_
-  raiseAt-legal c k (some e) = ends (change-legal Updated (λ a. (refl, refl, refl, refl)) (e .index) _)
+  raiseAt-legal c k (some e) = ends (change-legal Updated (λ a. refl) (e .index) _)
   raiseAt-legal c k none = go (leb (s .limitA) (length (s .active))) refl
     where
       go : (b : Bool) → leb (s .limitA) (length (s .active)) ≡ b → EndsOr31 (Balanced false s) (cond b (λ t. done (ActiveLimitExceeded k (t .limitA)) t) (storeNew (newAlarm c k)) s)
-      go true p = ends (still _ s (refl, refl, refl, refl) l)
+      go true p = ends (still _ s refl l)
       go false p = storeNew-legal _ (leb-false _ _ p)
 
   pub clearAt-legal : (c : ClearValue) (k : Bytes) (o : Option (Entry Alarm)) → Found (s .active) o → Ends (Balanced false s) (clearAt c k o s)
   unfolding clearAt _>>=_
   clearAt-legal c k (some e) f = ends-after _ (retire-legal (e .index) _ f) (λ u t p.
       ok (record { legal = p .0; kind = refl; even = omega (arith, ap length (p .1), length-without (e .index) (s .active) f) }))
-  clearAt-legal c k none f = still _ s (refl, refl, refl, refl) l
+  clearAt-legal c k none f = still _ s refl l
 
   actionNeutral : (x : Action) (a : Alarm) → Neutral false (actionAnswer x a)
-  actionNeutral acknowledging a = (refl, refl, refl, refl)
-  actionNeutral suppressing a = (refl, refl, refl, refl)
+  actionNeutral acknowledging a = refl
+  actionNeutral suppressing a = refl
 
   act-legal : (x : Action) (time : ℕ) (e : Entry Alarm) → Ends (Balanced false s) (act x time e s)
   unfolding act
@@ -165,12 +145,12 @@ module _ (s : Station) (l : Legal s) where
 
   plainAt-legal : (x : Action) (p : PlainValue) (o : Option (Entry Alarm)) → Ends (Balanced false s) (plainAt x p o s)
   unfolding plainAt
-  plainAt-legal x p none = still _ s (refl, refl, refl, refl) l
+  plainAt-legal x p none = still _ s refl l
   plainAt-legal x p (some e) = act-legal x (p .time) e
 
   pub plain-legal : (x : Action) (p : PlainValue) → Ends (Balanced false s) (plain x p s)
   unfolding plain _>>=_
-  plain-legal x p = cond-ends (eqb (p .authorised) 0) _ _ (still _ s (refl, refl, refl, refl) l) (plainAt-legal x p _)
+  plain-legal x p = cond-ends (eqb (p .authorised) 0) _ _ (still _ s refl l) (plainAt-legal x p _)
 
   attempt-legal : (v : Event) → Ends (λ b t. Aside s t) (attempt v s)
   unfolding attempt eventLost eventStored _>>=_
@@ -183,7 +163,7 @@ module _ (s : Station) (l : Legal s) where
 
   deny-legal : (v : Event) (m : Bytes) → Ends (Balanced false s) (deny v m s)
   unfolding deny _>>=_
-  deny-legal v m = ends-after _ (attempt-legal v) (λ b t q. ok (neutral _ t (refl, refl, refl, refl) (q .legal) (ap length (q .same))))
+  deny-legal v m = ends-after _ (attempt-legal v) (λ b t q. ok (neutral _ t refl (q .legal) (ap length (q .same))))
 
 balanced-aside : {s t : Station} (x : Answer) (r : Station) → Aside s t → Balanced false t x r → Balanced false s x r
 balanced-aside x r q b = record { legal = b .legal; kind = b .kind; even = omega (arith, b .even, ap length (q .same)) }
@@ -194,11 +174,11 @@ module _ (s : Station) (l : Legal s) where
   allow-legal x time v e = ends-after _ (attempt-legal s l v) (λ b t q.
       cond-ends b _ _
       (ends-weaken (act-legal t (q .legal) x time e) (λ y r z. balanced-aside y r q z))
-      (ok (neutral _ t (refl, refl, refl, refl) (q .legal) (ap length (q .same)))))
+      (ok (neutral _ t refl (q .legal) (ap length (q .same)))))
 
   policyAt-legal : (x : Action) (p : PolicyValue) (o : Option (Entry Alarm)) → Ends (Balanced false s) (policyAt x p o s)
   unfolding policyAt
-  policyAt-legal x p none = still _ s (refl, refl, refl, refl) l
+  policyAt-legal x p none = still _ s refl l
   policyAt-legal x p (some e) =
       cond-ends (needsOverride x p (e .content)) _ _ (deny-legal s l _ _)
       (cond-ends (eqb (p .verdict .authorised) 0) _ _ (deny-legal s l _ _) (allow-legal x _ _ e))
@@ -208,7 +188,7 @@ module _ (s : Station) (l : Legal s) where
   policy-legal x p = policyAt-legal x p _
 
 -- those that pass a test are on the chain
-pub those-on : {A : Type 0} (t : Entry A → Bool) (c : List (Entry A)) (i : ℕ) → times i (those t c) ≤ times i c
+those-on : {A : Type 0} (t : Entry A → Bool) (c : List (Entry A)) (i : ℕ) → times i (those t c) ≤ times i c
 unfolding those times
 those-on t [] i = omega arith
 those-on t (e ∷ c) i = go (t e) (those-on t c i)
@@ -217,10 +197,10 @@ those-on t (e ∷ c) i = go (t e) (those-on t c i)
     go true h = omega arith
     go false h = omega arith
 
-pub within-cons : {A : Type 0} (e : Entry A) (d c : List (Entry A)) → ((i : ℕ) → times i (e ∷ d) ≤ times i c) → 1 ≤ times (e .index) c
+within-cons : {A : Type 0} (e : Entry A) (d c : List (Entry A)) → ((i : ℕ) → times i (e ∷ d) ≤ times i c) → 1 ≤ times (e .index) c
 within-cons e d c h = omega (arith, h (e .index), on-chain e d)
 
-pub within-rest : {A : Type 0} (e : Entry A) (d c : List (Entry A)) → ((i : ℕ) → times i (e ∷ d) ≤ times i c) → (i : ℕ) → times i d ≤ times i (without (e .index) c)
+within-rest : {A : Type 0} (e : Entry A) (d c : List (Entry A)) → ((i : ℕ) → times i (e ∷ d) ≤ times i c) → (i : ℕ) → times i d ≤ times i (without (e .index) c)
 unfolding times timesIn
 within-rest e d c h i = omega (arith, h i, times-without (e .index) i c (within-cons e d c h))
 
@@ -240,7 +220,7 @@ expire-legal t s l =
     ends-after _ (each-legal t (those (isDueEntry t) (s .active)) s l (those-on (isDueEntry t) (s .active))) (λ u r p.
     ok (record { legal = p .0; kind = refl; even = omega (arith, p .1) }))
 
-pub frees-legal : (d : List (Entry Event)) (s : Station) → Legal s → Ends (λ u t. Aside s t) (forEach d freeOne s)
+frees-legal : (d : List (Entry Event)) (s : Station) → Legal s → Ends (λ u t. Aside s t) (forEach d freeOne s)
 unfolding forEach _>>=_
 frees-legal [] s l = ok (record { legal = l; same = refl; limit = refl })
 frees-legal (e ∷ d) s l = ends-after _ (freeOldestAudit-legal s l) (λ u t p. then-aside p (frees-legal d t (p .legal)))
@@ -248,22 +228,22 @@ frees-legal (e ∷ d) s l = ends-after _ (freeOldestAudit-legal s l) (λ u t p. 
 pub takeAudit-legal : (n : ℕ) (s : Station) → Legal s → Ends (Balanced false s) (takeAudit n s)
 unfolding takeAudit _>>=_
 takeAudit-legal n s l =
-    ends-after _ (frees-legal (take n (s .audit)) s l) (λ u t q. ok (neutral _ t (refl, refl, refl, refl) (q .legal) (ap length (q .same))))
+    ends-after _ (frees-legal (take n (s .audit)) s l) (λ u t q. ok (neutral _ t refl (q .legal) (ap length (q .same))))
 
 -- looking changes nothing
 module _ (s : Station) (l : Legal s) where
   pub activeList-legal : (v : ℕ) → Ends (Balanced true s) (activeList v s)
   unfolding activeList
-  activeList-legal v = still _ s (refl, refl, refl, refl) l
+  activeList-legal v = still _ s refl l
 
   pub historyList-legal : (t w : Option Bytes) → Ends (Balanced true s) (historyList t w s)
   unfolding historyList
-  historyList-legal t w = still _ s (refl, refl, refl, refl) l
+  historyList-legal t w = still _ s refl l
 
   pub counts-legal : Ends (Balanced false s) (counts s)
   unfolding counts
-  counts-legal = still _ s (refl, refl, refl, refl) l
+  counts-legal = still _ s refl l
 
   pub summary-legal : Ends (Balanced false s) (summary s)
   unfolding summary
-  summary-legal = still _ s (refl, refl, refl, refl) l
+  summary-legal = still _ s refl l

@@ -14,9 +14,9 @@ use Rattle.definition.specs.Cause.{oneOf, causeOf}
 use Rattle.definition.specs.Reader.{into, bytes, number, choice, blob, text, optional, causeText}
 use Rattle.definition.specs.Parse.{objectOf, object, head, places, key, body, raiseFields, fieldsOf, parseCall}
 use Rattle.definition.specs.Twins.{beforeText, TwinRaises}
-use Rattle.definition.specs.Chain.{Entry, those, first, newest, without, replaced}
+use Rattle.definition.specs.Chain.{Entry, those, first, newest, without, replaced, upFrom}
 use Rattle.definition.specs.Alarm.{Alarm, before, late, sameNames, sameKey, sameIdentity}
-use Rattle.definition.specs.Station.{Station, Outcome, done, stopped, _>>=_, fresh, upFrom, forEach, taking, addActive, addHistory, addAudit, freeActive, freeOldestHistory, changeActive, changeHistory, countSuccess, countFailure}
+use Rattle.definition.specs.Station.{Station, Outcome, done, stopped, _>>=_, fresh, forEach, taking, addActive, addHistory, addAudit, freeActive, freeOldestHistory, changeActive, changeHistory, countSuccess, countFailure}
 use Rattle.definition.specs.Answer.{Answer, headOf}
 use Rattle.definition.specs.Steps.{makeRoom, extendHistory, historyAfter, intoHistory, change, retire, updatedBy, newAlarm, store, storeNew, raiseAt, clearedBy, clearAt, actedOn, act, plainAt, plain, eventStored, eventLost, attempt, eventOf, deny, allow, needsOverride, policyAt, policy, expiredBy, expire, raise, clear}
 use Rattle.definition.specs.Perform.{inRecord, perform}
@@ -80,7 +80,7 @@ abbrev next : Station → Outcome Answer → Station
 next s (done x t) = t
 next s (stopped n) = s
 
-unfoldable pub outcomes : Station → List CallValue → List (Outcome Answer)
+unfoldable outcomes : Station → List CallValue → List (Outcome Answer)
 unfolding perform inRecord _>>=_ raise clear raiseAt clearAt change retire store storeNew intoHistory historyAfter extendHistory makeRoom forEach taking addActive addHistory addAudit freeActive freeOldestHistory changeActive changeHistory countSuccess countFailure those first newest without replaced before late sameIdentity sameKey sameNames parts same updatedBy newAlarm clearedBy actedOn act plainAt plain eventStored eventLost attempt eventOf deny allow needsOverride policyAt policy expiredBy expire
 outcomes s [] = []
 outcomes s (v ∷ l) =

@@ -14,8 +14,9 @@ use Rattle.definition.specs.Cause.{stored}
 use Rattle.definition.specs.Value.{ObjectValue, ScopeValue}
 use Rattle.definition.specs.Alarm.{Alarm, Event}
 use Rattle.definition.specs.Slot.{Slot, number, string, option}
-use Rattle.definition.specs.Record.{isRegion, anyBytes, short, causeSlot, regionSlot, detailsSlot, objectOk, scopeOk, legalAlarm, legalEvent}
+use Rattle.definition.specs.Record.{isRegion, anyBytes, short, causeSlot, regionSlot, detailsSlot, objectOk, scopeOk}
 use Rattle.definition.specs.Fields.{Time, Maybe, BlobOf, TextOf, CauseOf, ObjectOf, LegalScope, LegalAlarm, LegalEvent}
+use Rattle.definition.specs.RecordLaws.{legalAlarm, legalEvent}
 
 -- the test t says P
 pub record Says (t : Bool) (P : Type 0) : Type 0 where

@@ -10,7 +10,6 @@ use lib.Seq.{take-at}
 use Rattle.octets.specs.Bytes.{Bytes, begins}
 use Rattle.octets.specs.BoolLaws.{both, both-left, both-right, holds, true-holds}
 use Rattle.octets.specs.RangeLaws.{eq-on}
-use Rattle.octets.specs.NumberLaws.{Octets, octets-take, octets-drop}
 use Rattle.definition.specs.Utf8.{Range, Row, inside, rows, leads, follows, utf8From, utf8}
 use Rattle.definition.specs.Utf8Laws.{utf8-append}
 use Rattle.definition.specs.White.{white, encoded, frontOf, space, startFrom, endFrom, keep, stay, trim}
@@ -55,9 +54,6 @@ trim-part s =
 
 pub trim-le : (s : Bytes) → length (trim s) ≤ length s
 trim-le s = let p = trim-part s in rw (p .2) (simp (length-take, length-drop) (omega arith))
-
-pub trim-octets : (s : Bytes) → Octets s → Octets (trim s)
-trim-octets s h = let p = trim-part s in rw (p .2) (octets-take (p .1) (drop (p .0) s) (octets-drop (p .0) s h))
 
 -- ---- a white space character is UTF-8
 

@@ -9,9 +9,9 @@ use lib.Dec.{leb, eqb}
 use lib.ListN.{length, take, drop, length-append, length-take, take-append-drop}
 use lib.Seq.{take-at, drop-at}
 use borrow.Author.Tests.{leb-true, le-leb}
-use Rattle.octets.specs.Bytes.{Bytes, value, valueFrom}
+use Rattle.octets.specs.Bytes.{Bytes, value}
 use Rattle.definition.specs.Limits.{shortLimit, causeLimit, regionLimit, textLimit, detailsLimit}
-use Rattle.definition.specs.Utf8.{utf8, utf8From}
+use Rattle.definition.specs.Utf8.{utf8}
 use Rattle.definition.specs.Cause.{causeOf}
 use Rattle.definition.specs.Value.{ObjectValue, KeyValue, HeadValue, RaiseValue, CallValue}
 use Rattle.definition.specs.Reader.{Out, got, bad, Reader, next, _>>=_, give, refuse, into, bytes, number, choice, blob, text, optional, causeIs, causeText}
@@ -21,12 +21,12 @@ use Rattle.definition.specs.Twins.{beforeText, ReadRaise, TwinRaises, Tw
 
 -- ---- local: s begins with what r reads, and r reads the same before any other bytes
 
-pub data LocalAt {A : Type 0} (r : Reader A) (s : Bytes) : Out A → Type 0 where
+data LocalAt {A : Type 0} (r : Reader A) (s : Bytes) : Out A → Type 0 where
   reads : (p u : Bytes) (a : A) → s ≡ p ++ u → ((w : Bytes) → r (p ++ w) ≡ got a w) → LocalAt r s (got a u)
   faulty : {n : ℕ} → LocalAt r s (bad n)
 
-pub record Local {A : Type 0} (r : Reader A) : Type 0 where
-  pub local : (s : Bytes) → LocalAt r s (r s)
+record Local {A : Type 0} (r : Reader A) : Type 0 where
+  local : (s : Bytes) → LocalAt r s (r s)
 
 give-local : {A : Type 0} (a : A) → Local (give a)
 give-local a = record { local = λ s. reads [] s a refl (λ w. refl) }
@@ -241,29 +241,3 @@ twins-read b b′ (equal p) = ap (λ (x : Bytes). blankCall (parseCall x)) p
 twins-read b b′ (raises t) = twin-raises b b′ t
 
 -- ---- a raise with its text emptied and its details removed is a twin of it
-
--- a text of no bytes, and no details
-abbrev pub emptied : Bytes
-emptied = 0 ∷ 0 ∷ 0 ∷ 0 ∷ 0 ∷ []
-
-emptied-read : (h : HeadValue) (k : KeyValue) (after : Bytes) → body h k (emptied ++ after) ≡ got (record { head = h; key = k; text = []; details = none }) after
-unfolding body text blob number bytes optional choice _>>=_ utf8 utf8From valueFrom
-emptied-read h k after = rw (le-leb 4 (length (emptied ++ after)) (omega arith), le-leb 0 (length (0 ∷ after)) (omega arith), le-leb 1 (length (0 ∷ after)) (omega arith))
-
-pub raise-emptied : (before texts after : Bytes) → ReadRaise before texts after → TwinRaises (1 ∷ (before ++ (texts ++ after))) (1 ∷ (before ++ (emptied ++ after)))
-raise-emptied before texts after r =
-    record {
-      before = before;
-      texts = texts;
-      texts′ = emptied;
-      after = after;
-      is = refl;
-      is′ = refl;
-      read = r;
-      read′ = record {
-        early = r .early;
-        raise = record { head = r .early .0; key = r .early .1; text = []; details = none };
-        beforeRead = elsewhere before (texts ++ after) (r .early) (beforeText-local .local (before ++ (texts ++ after))) (r .beforeRead) (emptied ++ after);
-        textsRead = emptied-read (r .early .0) (r .early .1) after;
-      };
-    }

@@ -22,7 +22,7 @@ pub record Row : Type 0 where
   pub first : Range
   pub rest : List Range
 
-abbrev pub row : Range → List Range → Row
+abbrev row : Range → List Range → Row
 row f r = record { first = f; rest = r }
 
 -- UTF8-tail

@@ -3,7 +3,8 @@ use Prim.Native.Nat.{ℕ}
 use Rattle.octets.specs.Bytes.{Bytes}
 use mathlib.Core.Option.{Option}
 
--- an affected object, with its strings in order
+-- "An affected object is one of eight kinds, 1 to 8 as `AffectedObject` lists them, with its strings in order; kind 4's shard is optional,
+-- kind 8 ends with a u16 queue"
 pub data ObjectValue : Type 0 where
   nfInstance : Bytes → Bytes → ObjectValue
   interface : Bytes → Bytes → ObjectValue
@@ -14,67 +15,76 @@ pub data ObjectValue : Type 0 where
   certificate : Bytes → ObjectValue
   dataPlaneQueue : Bytes → Bytes → ℕ → ObjectValue
 
+-- tenant?, slice?, region?
 pub record PlacesValue : Type 0 where
   pub tenant : Option Bytes
   pub slice : Option Bytes
   pub region : Option Bytes
 
--- what a raise and a clear share
+-- cause, object, tenant?, slice?, region?: what a raise and a clear share, and with the type the key is made of
 pub record KeyValue : Type 0 where
   pub cause : Bytes
   pub object : ObjectValue
   pub places : PlacesValue
 
+-- a raise's fields before its cause
 pub record HeadValue : Type 0 where
   pub time : ℕ
   pub id : Bytes
   pub type : Bytes
   pub severity : ℕ
 
+-- 1 raise
 pub record RaiseValue : Type 0 where
   pub head : HeadValue
   pub key : KeyValue
   pub text : Bytes
   pub details : Option Bytes
 
+-- 2 clear
 pub record ClearValue : Type 0 where
   pub time : ℕ
   pub type : Bytes
   pub key : KeyValue
 
--- an acknowledgement or a suppression without a policy
+-- 3 acknowledge, 4 suppress
 pub record PlainValue : Type 0 where
   pub time : ℕ
   pub id : Bytes
   pub authorised : ℕ
 
+-- "Scope: 0 alarm with id, 1 tenant with string, 2 global"
 pub data ScopeValue : Type 0 where
   alarmScope : Bytes → ScopeValue
   tenantScope : Bytes → ScopeValue
   globalScope : ScopeValue
 
+-- who asks, and for which alarm: time, id, principal, tenant?
 pub record ActorValue : Type 0 where
   pub time : ℕ
   pub id : Bytes
   pub principal : Bytes
   pub tenant : Option Bytes
 
+-- reason, scope, correlation?
 pub record RequestValue : Type 0 where
   pub reason : Bytes
   pub scope : ScopeValue
   pub correlation : Option Bytes
 
+-- what the authoriser said: critical-allowed, authorised, denial message
 pub record VerdictValue : Type 0 where
   pub critical : ℕ
   pub authorised : ℕ
   pub denial : Bytes
 
--- a call with a policy
+-- 5, 6 the same with policy
 pub record PolicyValue : Type 0 where
   pub actor : ActorValue
   pub request : RequestValue
   pub verdict : VerdictValue
 
+-- the twelve operations, and the number of a call's first fault
 pub data CallValue : Type 0 where
   raise : RaiseValue → CallValue
   clear : ClearValue → CallValue

@@ -1,22 +1,19 @@
 -- Laws of a record that is changed in place: a splice of one slot is the alarm with one field changed, and a legal field keeps it legal.
-use mathlib.Core.Path.{_≡_, refl, sym, ap, ap₂, _∙_, subst}
-use mathlib.Core.List.{List, [], _∷_, _++_, append-assoc}
-use mathlib.Core.Bool.{Bool}
+use mathlib.Core.Path.{_≡_, refl, sym, ap, ap₂, _∙_}
+use mathlib.Core.List.{[], _∷_, _++_, append-assoc}
 use mathlib.Core.Option.{Option, none}
 use Prim.Native.Nat.{ℕ, _+_, _-_, _≤_, _<_}
 use native.Mathlib.Nat.{add-assoc, sub-zero}
 use native.Mathlib.Omega.{arith}
-use borrow.Author.Tests.{le-leb, leb-true}
-use lib.Dec.{T, leb}
 use lib.ListN.{length, getD, set, length-append}
-use Rattle.octets.specs.Bytes.{Bytes, same, zeros, digits, pad, splice}
-use Rattle.octets.specs.BoolLaws.{both, both-left, both-right, holds, true-holds}
+use Rattle.octets.specs.Bytes.{Bytes, zeros, digits, pad, splice}
 use Rattle.octets.specs.NumberLaws.{length-zeros, zeros-append, length-digits, length-pad, pad-fits}
 use Rattle.octets.specs.SpliceLaws.{splice-two}
+use Rattle.definition.specs.Blank.{blank}
 use Rattle.definition.specs.Alarm.{Alarm}
-use Rattle.definition.specs.Slot.{sound, stringBytes, join, allOf, tests}
-use Rattle.definition.specs.JoinLaws.{offset, splice-join, all-set, test-at}
-use Rattle.definition.specs.Record.{alarmFields, alarmBytes, readAlarm, legalAlarm, soundAlarm}
+use Rattle.definition.specs.Slot.{stringBytes, join}
+use Rattle.definition.specs.JoinLaws.{offset, splice-join}
+use Rattle.definition.specs.Record.{alarmBytes}
 use Rattle.definition.specs.RecordLaws.{alarmWidths, alarmPieces, alarm-fits}
 
 -- ---- a slot is replaced: whatever alarm was in the bytes b, the alarm that f makes of it is in the bytes c
@@ -34,7 +31,7 @@ slot-law k f v b c h l e changed a q =
 pub length-string : (n : ℕ) (s : Bytes) → length (stringBytes n s) ≡ 2 + n
 length-string n s = length-append (digits 2 (length s)) (pad n s) ∙ ap₂ _+_ (length-digits 2 (length s)) (length-pad n s)
 
-pub empty-string : (n : ℕ) → stringBytes n [] ≡ zeros (2 + n)
+empty-string : (n : ℕ) → stringBytes n [] ≡ zeros (2 + n)
 unfolding digits zeros
 empty-string n = ap (λ (z : Bytes). 0 ∷ 0 ∷ z) (pad-fits n [] (omega arith) ∙ ap zeros (sub-zero n)) ∙ zeros-append 2 n
 
@@ -51,34 +48,10 @@ string-splices b x y z s at n h l ex ey ez =
     ∙ splice-two b at (2 + m) (digits 2 m ++ s) (zeros (n - m)) w (omega arith)
     ∙ ap (splice b at) (append-assoc (digits 2 m) s (zeros (n - m)) ∙ rw (pad-fits n s l))
 
--- ---- legal alarms
-
--- field k is changed to a legal value; the last argument but one is refl for each field
-pub legal-with :
-    (top top′ k : ℕ) (f : Alarm → Alarm) (a : Alarm) (y : Bool) → T y → set (tests (alarmFields top) a) k y ≡ tests (alarmFields top′) (f a) →
-    T (legalAlarm top a) → T (legalAlarm top′ (f a))
-unfolding legalAlarm
-legal-with top top′ k f a y u e t = subst (λ (xs : List Bool). T (allOf xs)) e (all-set (tests (alarmFields top) a) k y t u)
-
--- what is legal on the active chain is legal in history
-module _ (top top′ : ℕ) (h : top ≤ top′) where
-  pub legal-wider : (a : Alarm) → T (legalAlarm top a) → T (legalAlarm top′ a)
-  unfolding legalAlarm
-  legal-wider a t =
-      let s : a .state ≤ top = leb-true (a .state) top (holds _ (test-at (tests (alarmFields top) a) 2 t)) in
-      legal-with top top′ 2 (λ a. a) a (leb (a .state) top′) (true-holds _ (le-leb (a .state) top′ (omega arith))) refl t
-
-  pub sound-wider : (b : Bytes) → T (soundAlarm top b) → T (soundAlarm top′ b)
-  unfolding soundAlarm sound alarmBytes readAlarm legalAlarm
-  sound-wider b t =
-      let p = legalAlarm top (readAlarm b) in
-      let q = same (alarmBytes (readAlarm b)) b in
-      both (legalAlarm top′ (readAlarm b)) q (legal-wider (readAlarm b) (both-left p q t)) (both-right p q t)
-
 -- ---- "compared with both fields, their lengths and presence taken as zero"
 
 -- another text, other details
-abbrev pub withTexts : Bytes → Option Bytes → Alarm → Alarm
+abbrev withTexts : Bytes → Option Bytes → Alarm → Alarm
 withTexts t d a =
     record {
       id = a .id;
@@ -95,7 +68,7 @@ withTexts t d a =
     }
 
 -- both slots zero are the bytes of the alarm without text and details
-pub mask-alarm : (a : Alarm) → splice (splice (alarmBytes a) 674 (zeros 258)) 932 (zeros 515) ≡ alarmBytes (withTexts [] none a)
+pub mask-alarm : (a : Alarm) → splice (splice (alarmBytes a) 674 (zeros 258)) 932 (zeros 515) ≡ alarmBytes (blank a)
 mask-alarm a =
     let b = alarmBytes a in
     let e : splice b 674 (zeros 258) ≡ alarmBytes (withTexts [] (a .details) a) =

@@ -4,13 +4,13 @@ use mathlib.Core.Path.{_≡_}
 use mathlib.Core.List.{List, map}
 use lib.ListN.{length}
 use Rattle.octets.specs.Bytes.{Bytes, at32}
-use Rattle.definition.specs.Chain.{Entry, onContent, those}
+use Rattle.definition.specs.Chain.{Entry, onContent, those, lastOf}
 use Rattle.definition.specs.Alarm.{Alarm}
 use Rattle.definition.specs.Record.{readAlarm}
-use Rattle.definition.specs.Book.{Record, lastOf, readBook}
+use Rattle.definition.specs.Book.{Record, readBook}
 use Rattle.definition.specs.Station.{forEach}
 use Rattle.definition.specs.Steps.{isDueEntry, retireDue}
-use Rattle.definition.specs.MoveLaws.{Does}
+use Rattle.definition.specs.Does.{Does}
 use Rattle.history.specs.Meaning.{Newest}
 use Rattle.history.specs.Walk.{Along}
 use Rattle.expiry.specs.declared.Stand.{Stand}

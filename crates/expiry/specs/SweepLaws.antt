@@ -10,14 +10,12 @@ use lib.Dec.{T}
 use lib.ListN.{length, drop}
 use Rattle.octets.specs.Bytes.{Bytes, at32}
 use Rattle.octets.specs.Put.{Put}
-use Rattle.definition.specs.Chain.{Entry, onContent, entry, those, without}
+use Rattle.definition.specs.Chain.{Entry, onContent, entry, those, without, lastOf, times}
 use Rattle.definition.specs.ChainLaws.{without-map}
 use Rattle.definition.specs.Alarm.{Alarm, isDue}
 use Rattle.definition.specs.Record.{lastState, alarmBytes, readAlarm}
-use Rattle.definition.specs.Book.{Record, recordOf, lastOf, times, readBook}
-use Rattle.definition.specs.BookChainLaws.{times-hit, times-miss}
-use Rattle.definition.specs.BookSplitLaws.{prevOf, lastFrom, last-from-zero}
-use Rattle.definition.specs.BookLegalLaws as L
+use Rattle.definition.specs.Book.{Record, recordOf, readBook}
+use Rattle.definition.specs.BookSplitLaws.{lastFrom, last-from-zero}
 use Rattle.definition.specs.BookSoundLaws.{length-at}
 use Rattle.definition.specs.Fields.{Time}
 use Rattle.definition.specs.ChangeLaws.{expired-legal}
@@ -27,8 +25,9 @@ use Rattle.definition.specs.Steps.{expiredBy, retire, isDueEntry, retireDue, ex
 use Rattle.definition.specs.Answer.{Expired, answerBytes}
 use Rattle.definition.specs.Sound.{bookOf, stationOf, station, sound}
 use Rattle.definition.specs.SoundLaws.{sound-holds}
-use Rattle.definition.specs.MoveLaws.{Does}
-use Rattle.definition.specs.ReplyLaws.{Answers}
+use Rattle.definition.specs.TimesLaws.{times-hit, times-miss}
+use Rattle.definition.specs.Moves.{prevOf, CanRelease}
+use Rattle.definition.specs.Does.{Does, Answers}
 use Rattle.history.specs.Meaning.{IsAlarm, Newest, OnActive, Files}
 use Rattle.history.specs.DoesLaws.{does-then, does-give, does-look, does-end}
 use Rattle.history.specs.Walk.{alarmAt}
@@ -135,7 +134,7 @@ module _ (cutoff : ℕ) (b₀ b : Bytes) (n at : ℕ) (s : Stand) (k : ℕ) (w :
     pub meets-fits : 1536 * at + 1536 ≤ length b
     meets-fits = along-fits (w .along) ahead
 
-    pub meets-free : L.CanRelease b 0 at (s .kept)
+    pub meets-free : CanRelease b 0 at (s .kept)
     meets-free = record {
       sound = sound-holds b (w .newest .whole) .book;
       which = omega arith;

@@ -13,11 +13,11 @@ use Rattle.definition.specs.Answer.{Answer, Counts, headOf, headBytes, countEnt
 use Rattle.definition.specs.Reports.{Rating, rating, countOf, firstsFrom, tally, counts}
 use Rattle.definition.specs.Perform.{inLength}
 use Rattle.definition.specs.Sound.{station, sound}
-use Rattle.definition.specs.MoveLaws.{Does}
-use Rattle.definition.specs.ReplyLaws.{Answers, Refuses}
+use Rattle.definition.specs.AnswerLaws.{length-answer}
+use Rattle.definition.specs.Does.{Does, Answers, Refuses}
 use Rattle.history.specs.DoesLaws.{does-look}
 use Rattle.history.specs.WalkLaws.{reached-length}
-use Rattle.answers.specs.AnswerLaws.{length-answer, listHead, put-list}
+use Rattle.answers.specs.AnswerLaws.{listHead, put-list}
 use Rattle.reply.specs.ReplyLaws.{answered, refused}
 use Rattle.history.specs.Walk.{alarmsOn}
 use Rattle.metrics.specs.Meaning.{ratings, settled, unmarked, entries, listing, Settled}

@@ -1,15 +1,19 @@
 -- Lists of bytes: numbers in them, the most significant byte first, and lists compared, filled and replaced in part.
 use mathlib.Core.List.{List, [], _∷_, _++_}
 use mathlib.Core.Bool.{Bool, true, false, _&&_}
-use Prim.Native.Nat.{ℕ, zero, suc, _+_, _*_, _/_, _%_}
+use Prim.Native.Nat.{ℕ, zero, suc, _+_, _*_, _/_, _%_, _<_}
 use Prim.Native.String
 use Prim.Native.String.{String}
 use Prim.Native.Char.{code}
 use lib.Dec.{eqb}
-use lib.ListN.{length, take, drop, replicate}
+use lib.ListN.{length, take, drop, getD, replicate}
 
 abbrev pub Bytes : Type 0
 Bytes = List ℕ
+
+-- each is a byte
+abbrev pub Octets : Bytes → Type 0
+Octets s = (i : ℕ) → getD s i 0 < 256
 
 -- the bytes of an ASCII text
 abbrev pub ascii : String → Bytes

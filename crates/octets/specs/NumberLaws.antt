@@ -7,7 +7,7 @@ use native.Mathlib.Decide.{decLt}
 use native.Mathlib.Omega.{arith}
 use lib.ListN.{length, take, drop, getD, length-append, length-take, length-drop, length-replicate, getD-replicate, replicate-append-replicate, List·getD-eq-default}
 use lib.Seq.{take-append-le, drop-append-le, take-append-add, drop-append-add, take-at, drop-drop, getD-take, getD-drop}
-use Rattle.octets.specs.Bytes.{Bytes, zeros, pad, digits, be32, valueFrom, value, numberAt, at32}
+use Rattle.octets.specs.Bytes.{Bytes, Octets, zeros, pad, digits, be32, valueFrom, value, numberAt, at32}
 use Rattle.octets.specs.PartLaws.{part-length}
 
 -- ---- zeros
@@ -75,10 +75,6 @@ value-digits zero v h = let k : v < 1 = h in omega arith
 value-digits (suc n) v h =
     let l : v / 256 < 256 ^ n = div-lt-iff-lt-mul {k = 256} (omega arith) .1 (subst (λ (x : ℕ). v < x) (pow-suc 256 n) h) in
     valueFrom-snoc 0 (digits n (v / 256)) (v % 256) ∙ ap (λ (x : ℕ). x * 256 + v % 256) (value-digits n (v / 256) l) ∙ div-add-mod' v 256
-
--- each is a byte
-abbrev pub Octets : Bytes → Type 0
-Octets s = (i : ℕ) → getD s i 0 < 256
 
 pub octets-tail : (b : ℕ) (s : Bytes) → Octets (b ∷ s) → Octets s
 octets-tail b s h i = h (suc i)

@@ -5,15 +5,15 @@ use Rattle.octets.specs.Bytes.{Bytes}
 use Rattle.definition.specs.Value.{PlainValue, PolicyValue, CallValue}
 use Rattle.definition.specs.Steps.{Action, acknowledging, suppressing}
 use Rattle.definition.specs.Sound.{station, sound}
-use Rattle.definition.specs.HistoryLaws.{lastIndex}
+use Rattle.definition.specs.Chain.{lastOf}
 use Rattle.register_check.specs.declared.Lasts.{Lasts}
 
 -- a sound register, and the last record of each chain
 pub record Standing (b : Bytes) (l : Lasts) : Type 0 where
   pub whole : T (sound b)
-  pub active : l .active ≡ lastIndex (station b .active)
-  pub history : l .history ≡ lastIndex (station b .history)
-  pub audit : l .audit ≡ lastIndex (station b .audit)
+  pub active : l .active ≡ lastOf (station b .active)
+  pub history : l .history ≡ lastOf (station b .history)
+  pub audit : l .audit ≡ lastOf (station b .audit)
 
 -- operations 3 and 4, 5 and 6
 abbrev pub plainCall : Action → PlainValue → CallValue

@@ -22,8 +22,7 @@ use Rattle.definition.specs.Station.{_>>=_, refuse}
 use Rattle.definition.specs.Steps.{change, updatedBy, newAlarm, store, storeNew, limitExceeded, raiseAt, raise}
 use Rattle.definition.specs.Answer.{Raised, Updated, ActiveLimitExceeded, head, headBytes, answerBytes}
 use Rattle.definition.specs.Sound.{station, sound}
-use Rattle.definition.specs.MoveLaws.{Does}
-use Rattle.definition.specs.ReplyLaws.{Answers, Refuses}
+use Rattle.definition.specs.Does.{Does, Answers, Refuses}
 use Rattle.history.specs.Meaning.{IsAlarm, OnActive, Changes}
 use Rattle.history.specs.Walk.{alarmAt}
 use Rattle.history.specs.DoesLaws.{does-then, does-look, does-yes, does-no}

@@ -2,14 +2,13 @@
 ghost use mathlib.Core.Path.{_≡_};
 ghost use lib.Dec.{T};
 ghost use lib.ListN.{length};
-ghost use Rattle.definition.specs.Chain.{present, first};
+ghost use Rattle.definition.specs.Chain.{present, first, lastOf};
 ghost use Rattle.definition.specs.Alarm.{hasId};
 ghost use Rattle.definition.specs.Limits.{shortLimit};
-ghost use Rattle.definition.specs.HistoryLaws.{lastIndex};
-ghost use Rattle.model.specs.Meaning.{part, within};
 ghost use Rattle.definition.specs.Sound.{station, sound};
 ghost use Rattle.definition.specs.Steps as S;
-ghost use Rattle.definition.specs.ReplyLaws.{Answers};
+ghost use Rattle.definition.specs.Does.{Answers};
+ghost use Rattle.model.specs.Meaning.{part, within};
 ghost use Rattle.raise.specs.Meaning.{raiseValue};
 ghost use Rattle.history.specs.Meaning.{OnActive, Room};
 ghost use Rattle.reply.specs.Meaning.{Replies};
@@ -102,7 +101,7 @@ fn raise_new(
     key: &[u8],
     answer: &mut [u8],
 ) -> Reply
-    requires { ⌜ Ready (now register) last (now call) r (now answer) × (end ≡ lastIndex (station (now register) .active)) × (length (now key) ≡ 16) ⌝ }
+    requires { ⌜ Ready (now register) last (now call) r (now answer) × (end ≡ lastOf (station (now register) .active)) × (length (now key) ≡ 16) ⌝ }
     ensures { λ y.
         ⌜ Replies
         y
@@ -128,7 +127,7 @@ pub fn raise(
     r: Raise,
     answer: &mut [u8],
 ) -> Reply
-    requires { ⌜ Ready (now register) last (now call) r (now answer) × (end ≡ lastIndex (station (now register) .active)) ⌝ }
+    requires { ⌜ Ready (now register) last (now call) r (now answer) × (end ≡ lastOf (station (now register) .active)) ⌝ }
     ensures { λ y.
         ⌜ Replies
         y

@@ -9,11 +9,11 @@ use lib.Bits.{bitAnd, bitOr, and-zero-r, and-mask}
 use lib.Dec.{ltb, eqb}
 use lib.ListN.{length, take, drop, getD, replicate, length-append, length-replicate, replicate-append-replicate}
 use lib.Seq.{take-at, drop-at}
-use Rattle.octets.specs.Bytes.{Bytes, zeros, blank, numberAt, splice}
+use Rattle.octets.specs.Bytes.{Bytes, Octets, zeros, blank, numberAt, splice}
 use Rattle.octets.specs.BoolLaws.{and-true, and-false}
 use Rattle.octets.specs.PartLaws.{part-drop, part-front}
 use Rattle.octets.specs.BlankLaws.{blank-step, blank-zeros, blank-append}
-use Rattle.octets.specs.NumberLaws.{Octets, length-zeros}
+use Rattle.octets.specs.NumberLaws.{length-zeros}
 use Rattle.definition.specs.Slot.{sound, string}
 use Rattle.definition.specs.SlotLaws.{part-lent, string-sound}
 use Rattle.definition.specs.Utf8Laws.{plain}

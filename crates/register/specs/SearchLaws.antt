@@ -9,14 +9,15 @@ use lib.ListN.{length, take, drop, length-take}
 use borrow.Author.Tests.{eq-eqb, ne-eqb}
 use Rattle.octets.specs.Bytes.{Bytes, same, value, numberAt}
 use Rattle.octets.specs.PartLaws.{part-front, part-drop, part-part}
-use Rattle.definition.specs.Chain.{Entry, first}
+use Rattle.definition.specs.Chain.{Entry, first, times}
 use Rattle.definition.specs.Slot.{cut}
 use Rattle.definition.specs.Record.{readAlarm}
-use Rattle.definition.specs.Book.{Record, recordOf, chain, times, readBook}
-use Rattle.definition.specs.BookChainLaws.{times-cons, times-hit, times-miss}
-use Rattle.definition.specs.BookSplitLaws.{prevOf}
-use Rattle.definition.specs.BookLegalLaws.{Sound, CanRelease, fair}
+use Rattle.definition.specs.Book.{Record, recordOf, readBook}
+use Rattle.definition.specs.BookLegalLaws.{fair}
 use Rattle.definition.specs.BookWithLaws.{total-on}
+use Rattle.definition.specs.TimesLaws.{times-cons, times-hit, times-miss}
+use Rattle.definition.specs.Moves.{prevOf, CanRelease}
+use Rattle.definition.specs.BookLegal.{Sound, chain}
 use Rattle.register.specs.declared.Found.{Found}
 use Rattle.register.specs.declared.Found.the-variants.{At, Nowhere}
 use Rattle.register.specs.Search.{firstIn, holdsKey, holdsId}

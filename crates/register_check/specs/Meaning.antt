@@ -5,9 +5,11 @@ use mathlib.Core.Bool.{Bool, true, false}
 use lib.ListN.{take, drop}
 use Rattle.octets.specs.Bytes.{Bytes, same, zeros, at32}
 use Rattle.definition.specs.Record.{lastActive, lastState, soundAlarm, soundEvent}
-use Rattle.definition.specs.Book.{Record, payloadWidth, chain, lastOf, capacity, walk, every, readBook}
+use Rattle.definition.specs.Book.{Record, payloadWidth, capacity, walk, every, readBook}
 use Rattle.definition.specs.Sound.{sound}
-use Rattle.definition.specs.BookCheckLaws.{Leads, Numbers}
+use Rattle.definition.specs.Chain.{lastOf}
+use Rattle.definition.specs.BookCheck.{Leads, Numbers}
+use Rattle.definition.specs.BookLegal.{chain}
 use Rattle.register_check.specs.declared.Checked.{Checked}
 use Rattle.register_check.specs.declared.Checked.the-variants.{Sound, Unsound}
 use Rattle.register_check.specs.declared.Lasts.{Lasts}

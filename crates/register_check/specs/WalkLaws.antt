@@ -6,9 +6,10 @@ use native.Mathlib.Omega.{arith}
 use lib.Dec.{T}
 use lib.ListN.{length, take, drop}
 use Rattle.octets.specs.Bytes.{Bytes, same, zeros, blank, at32}
-use Rattle.definition.specs.Book.{Record, payloadWidth, recordOf, lastOf, walk, every}
-use Rattle.definition.specs.BookCheckLaws.{Leads}
+use Rattle.definition.specs.Book.{Record, payloadWidth, recordOf, walk, every}
 use Rattle.definition.specs.BookWalkLaws.{Went, went-start, went-on, went-end}
+use Rattle.definition.specs.Chain.{lastOf}
+use Rattle.definition.specs.BookCheck.{Leads}
 use Rattle.register_check.specs.Meaning.{holds, passes}
 use Rattle.register_check.specs.declared.Kind.{Kind}
 use Rattle.register_check.specs.declared.Kind.the-variants.{Free}

@@ -20,8 +20,7 @@ use Rattle.definition.specs.Station.{Step}
 use Rattle.definition.specs.Steps.{Action, acknowledging, suppressing, actionAnswer, notAuthorized, actedOn, act, plainAt, plain, change}
 use Rattle.definition.specs.Answer.{Answer, Unauthorized, NotFound, head, headOf, headBytes, body, alarmRecord, answerBytes}
 use Rattle.definition.specs.Sound.{station, sound}
-use Rattle.definition.specs.MoveLaws.{Does}
-use Rattle.definition.specs.ReplyLaws.{Answers}
+use Rattle.definition.specs.Does.{Does, Answers}
 use Rattle.history.specs.Meaning.{IsAlarm, OnActive, Changes}
 use Rattle.history.specs.Walk.{alarmAt}
 use Rattle.history.specs.DoesLaws.{does-then, does-give, does-look, does-yes, does-no}

@@ -20,8 +20,7 @@ use Rattle.definition.specs.ChangeLaws.{cleared-legal}
 use Rattle.definition.specs.Steps.{clearedBy, clearAt, clear, retire}
 use Rattle.definition.specs.Answer.{Cleared, ClearWithoutActive, head, headBytes, answerBytes}
 use Rattle.definition.specs.Sound.{station, sound}
-use Rattle.definition.specs.MoveLaws.{Does}
-use Rattle.definition.specs.ReplyLaws.{Answers}
+use Rattle.definition.specs.Does.{Does, Answers}
 use Rattle.history.specs.Meaning.{IsAlarm, OnActive, Files}
 use Rattle.history.specs.Walk.{alarmAt}
 use Rattle.history.specs.DoesLaws.{does-then, does-give, does-look}

@@ -13,9 +13,10 @@ use Rattle.definition.specs.Reports.{activeList, historyList, counts, takeAudit
 use Rattle.definition.specs.Perform.{inLength, perform}
 use Rattle.definition.specs.Sound.{station, sound}
 use Rattle.definition.specs.HistoryLaws.{active-last, history-last, audit-last}
-use Rattle.definition.specs.ReplyLaws.{Refuses, Gives, answers-give, refuses-give}
+use Rattle.definition.specs.ReplyLaws.{answers-give, refuses-give}
 use Rattle.definition.specs.Lists.{stepOf, replyOf}
-use Rattle.definition.specs.Claim.{Stepped}
+use Rattle.definition.specs.Claim.{Stepped, Gives}
+use Rattle.definition.specs.Does.{Refuses}
 use Rattle.call.specs.declared.Parsed.{Parsed}
 use Rattle.call.specs.Meaning.{meaning}
 use Rattle.register_check.specs.declared.Lasts.{Lasts}

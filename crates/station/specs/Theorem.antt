@@ -5,8 +5,7 @@ use mathlib.Core.List.{List, [], _∷_, map}
 use mathlib.Core.Bool.{Bool}
 use lib.Dec.{T}
 use lib.ListN.{length}
-use Rattle.octets.specs.Bytes.{Bytes, splice}
-use Rattle.octets.specs.NumberLaws.{Octets}
+use Rattle.octets.specs.Bytes.{Bytes, Octets, splice}
 use Rattle.octets.specs.BoolLaws.{holds}
 use Rattle.definition.specs.Parse.{parseCall}
 use Rattle.definition.specs.Station.{Outcome, done, stopped}

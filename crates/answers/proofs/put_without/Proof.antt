@@ -7,8 +7,9 @@ use Rattle.octets.specs.PutLaws.{put-two, put-as}
 use Rattle.definition.specs.Key.{string, hex}
 use Rattle.definition.specs.KeyLaws.{length-hex}
 use Rattle.definition.specs.Answer.{ClearWithoutActive, head, headBytes}
+use Rattle.definition.specs.AnswerLaws.{length-head}
 use Rattle.model.specs.Meaning.{causePart}
-use Rattle.answers.specs.AnswerLaws.{length-head, answer-as}
+use Rattle.answers.specs.AnswerLaws.{answer-as}
 use borrow.Author.Needs.{needs}
 use Rattle.answers.proofs.put_without.Statement.{statement}
 use Rattle.answers.proofs.put_without.Tie as tie

@@ -5,8 +5,9 @@ use native.Mathlib.Omega.{arith}
 use borrow.Author.Tests.{not-true, not-false}
 use lib.ListN.{take, drop}
 use Rattle.octets.specs.Bytes.{zeros, at32}
-use Rattle.definition.specs.BookLegalLaws.{Limit}
-use Rattle.definition.specs.BookJudgeLaws.{Decides, Counts, confirms, refutes, capacity-read, numbers-of, counts-of, size-of}
+use Rattle.definition.specs.BookJudgeLaws.{confirms, refutes, capacity-read, numbers-of, size-of}
+use Rattle.definition.specs.BookLegal.{Limit}
+use Rattle.definition.specs.BookCheck.{Decides, Counts}
 use Rattle.register_check.specs.JudgeLaws.{tail-decides}
 use borrow.Author.Needs.{needs}
 use Rattle.register_check.proofs.header.Statement.{statement}
@@ -42,7 +43,7 @@ counts-ok-requires : tie.Need-counts-ok-requires
 counts-ok-requires c κs = omega (arith, limits c)
 
 returns-3 : tie.Need-returns-3
-returns-3 c = λ m h. refutes (c .before .counts-ok .result) (counts (c .before)) (not-true _ (c .if3 .taken)) (counts-of _ (h .numbers))
+returns-3 c = λ m h. refutes (c .before .counts-ok .result) (counts (c .before)) (not-true _ (c .if3 .taken)) (h .numbers .counts)
 
 add-capacity : tie.Need-add-capacity
 add-capacity c = omega (arith, limits (c .before .before))
