@@ -118,7 +118,7 @@ expired-legal t a h p = record {
   key = p .key;
 }
 
-pub actionByte-small : (x : Action) → actionByte x ≤ 1
+actionByte-small : (x : Action) → actionByte x ≤ 1
 actionByte-small acknowledging = omega arith
 actionByte-small suppressing = omega arith
 

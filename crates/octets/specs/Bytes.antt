@@ -54,9 +54,6 @@ unfoldable pub digits : ℕ → ℕ → Bytes
 digits zero v = []
 digits (suc n) v = digits n (v / 256) ++ (v % 256 ∷ [])
 
-abbrev pub be16 : ℕ → Bytes
-be16 v = digits 2 v
-
 abbrev pub be32 : ℕ → Bytes
 be32 v = digits 4 v
 

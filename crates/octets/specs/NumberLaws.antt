@@ -5,8 +5,8 @@ use Prim.Native.Nat.{ℕ, zero, suc, _+_, _*_, _/_, _%_, _-_, _^_, _≤_, _<_}
 use native.Mathlib.Nat.{add-zero, zero-add, lt-of-lt-of-le, mul-le-mul-right, div-add-mod', div-lt-iff-lt-mul, pow-suc, mul-comm, mul-assoc}
 use native.Mathlib.Decide.{decLt}
 use native.Mathlib.Omega.{arith}
-use lib.ListN.{length, take, drop, getD, length-append, length-take, length-drop, length-replicate, getD-replicate, replicate-append-replicate, List·getD-eq-default}
-use lib.Seq.{take-append-le, drop-append-le, take-append-add, drop-append-add, take-at, drop-drop, getD-take, getD-drop}
+use lib.ListN.{length, take, drop, getD, length-append, length-take, length-replicate, getD-replicate, replicate-append-replicate, List·getD-eq-default}
+use lib.Seq.{take-append-add, drop-append-add, take-at, getD-take, getD-drop}
 use Rattle.octets.specs.Bytes.{Bytes, Octets, zeros, pad, digits, be32, valueFrom, value, numberAt, at32}
 use Rattle.octets.specs.PartLaws.{part-length}
 
@@ -129,16 +129,6 @@ module _ (n : ℕ) where
   -- a number is read past a front part
   pub number-append : (a b : Bytes) (k : ℕ) → numberAt n (a ++ b) (length a + k) ≡ numberAt n b k
   number-append a b k = rw drop-append-add
-
-  -- a number is read within a front part
-  pub number-front : (a b : Bytes) (k : ℕ) → k + n ≤ length a → numberAt n (a ++ b) k ≡ numberAt n a k
-  number-front a b k h =
-      let e = drop-append-le k a b (omega arith) in
-      ap (λ (t : Bytes). value (take n t)) e ∙ ap value (take-append-le n (drop k a) b (omega (arith, length-drop k a)))
-
-  -- a number is read past bytes that are left out
-  pub number-drop : (b : Bytes) (m k : ℕ) → numberAt n b (m + k) ≡ numberAt n (drop m b) k
-  number-drop b m k = ap (λ (t : Bytes). value (take n t)) (sym (drop-drop k m b))
 
   -- the bytes at a place are those of the number there
   pub digits-number : (b : Bytes) (k : ℕ) → Octets b → k + n ≤ length b → digits n (numberAt n b k) ≡ take n (drop k b)

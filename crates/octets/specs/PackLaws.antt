@@ -79,7 +79,7 @@ module _ (w : ℕ) where
   splice-first n f k v h l m = rw (mul-zero, zero-add) at (splice-pack n 0 f k v h l m)
 
   -- part i stands at w * i
-  pub drop-pack : (n i : ℕ) (f : ℕ → Bytes) → ((j : ℕ) → length (f j) ≡ w) → i < n → (r : Bytes) × (drop (w * i) (pack n f) ≡ f i ++ r)
+  drop-pack : (n i : ℕ) (f : ℕ → Bytes) → ((j : ℕ) → length (f j) ≡ w) → i < n → (r : Bytes) × (drop (w * i) (pack n f) ≡ f i ++ r)
   unfolding pack
   drop-pack zero i f h l = absurd (not-suc-le-zero l)
   drop-pack (suc n) zero f h l = (pack n (λ j. f (suc j)), rw mul-zero refl)
