@@ -1,3 +1,4 @@
 pub mod Check
 pub mod Ruler
 pub mod RulerLaws
+pub mod PlainLaws

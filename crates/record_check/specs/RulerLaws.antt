@@ -1,25 +1,21 @@
 -- Laws of the ruler: what it leaves of a room, byte by byte and as a whole.
 use mathlib.Core.Path.{_≡_, refl, sym, ap, ap₂, _∙_}
-use mathlib.Core.Bool.{Bool, true, false, _&&_}
+use mathlib.Core.Bool.{Bool, _&&_}
 use mathlib.Core.List.{[], _∷_, _++_, append-assoc}
 use Prim.Native.Nat.{ℕ, zero, suc, _+_, _-_, _≤_, _<_}
+use native.Mathlib.Decide.{decLt}
 use native.Mathlib.Omega.{arith}
-use borrow.Author.Tests.{eq-eqb, ne-eqb}
-use lib.Bits.{bitAnd, bitOr, and-zero-r, and-mask}
+use borrow.Author.Tests.{lt-ltb, le-ltb}
+use lib.Bits.{bitAnd, bitOr, and-mask}
 use lib.Dec.{ltb, eqb}
 use lib.ListN.{length, take, drop, getD, replicate, length-append, length-replicate, replicate-append-replicate}
 use lib.Seq.{take-at, drop-at}
-use Rattle.octets.specs.Bytes.{Bytes, Octets, zeros, blank, numberAt, splice}
-use Rattle.octets.specs.BoolLaws.{and-true, and-false}
-use Rattle.octets.specs.PartLaws.{part-drop, part-front}
-use Rattle.octets.specs.BlankLaws.{blank-step, blank-zeros, blank-append}
-use Rattle.octets.specs.NumberLaws.{length-zeros}
-use Rattle.definition.specs.Slot.{sound, string}
-use Rattle.definition.specs.SlotLaws.{part-lent, string-sound}
+use Rattle.octets.specs.Bytes.{Bytes, Octets, same, zeros, blank, splice}
+use Rattle.octets.specs.BoolLaws.{and-assoc}
+use Rattle.octets.specs.RangeLaws.{eq-on}
+use Rattle.octets.specs.BlankLaws.{blank-step}
 use Rattle.definition.specs.Utf8Laws.{plain}
-use Rattle.utf8.specs.PlainLaws.{plain-take}
-use Rattle.record_check.specs.Ruler.{ones, rulerBytes, under, Holds}
-use Rattle.record_check.specs.declared.room.Held.{Held}
+use Rattle.record_check.specs.Ruler.{highs, ones, rulerBytes, under}
 
 -- ---- byte by byte
 
@@ -47,81 +43,67 @@ under-step s r i x h l e = rw (← under-at s r i h l) (blank-step (under s r) i
 split : (a b x : ℕ) {n : ℕ} → n ≡ a + b → replicate n x ≡ replicate a x ++ replicate b x
 split a b x e = ap (λ (k : ℕ). replicate k x) e ∙ sym (replicate-append-replicate a b x)
 
--- the code fills the ruler with ones, and then its first half with zeros
-pub ruler-made : splice (replicate 1024 255) 0 (zeros 512) ≡ rulerBytes
-unfolding rulerBytes ones splice
-ruler-made = rw (length-zeros 512) (ap (λ (r : Bytes). zeros 512 ++ drop 512 r) (split 512 512 255 {n = 1024} refl) ∙ ap (_++_ (zeros 512)) (drop-at (replicate 512 255) (replicate 512 255) 512 (length-replicate {A = ℕ} 512 255)))
+-- the code fills the ruler with ones, and then its first half with the highest bit
+pub ruler-made : splice (replicate 1024 255) 0 (replicate 512 128) ≡ rulerBytes
+unfolding rulerBytes highs ones splice
+ruler-made =
+    ap (λ (w : ℕ). replicate 512 128 ++ drop w (replicate 1024 255)) (length-replicate {A = ℕ} 512 128)
+    ∙ ap (λ (r : Bytes). replicate 512 128 ++ drop 512 r) (split 512 512 255 {n = 1024} refl)
+    ∙ ap (_++_ (replicate 512 128)) (drop-at (replicate 512 255) (replicate 512 255) 512 (length-replicate {A = ℕ} 512 255))
 
 pub length-ruler : length rulerBytes ≡ 1024
-unfolding rulerBytes ones
-length-ruler = length-append (zeros 512) (replicate 512 255) ∙ ap₂ _+_ (length-zeros 512) (length-replicate {A = ℕ} 512 255)
+unfolding rulerBytes highs ones
+length-ruler = length-append {A = ℕ} (replicate 512 128) (replicate 512 255) ∙ ap₂ _+_ (length-replicate {A = ℕ} 512 128) (length-replicate {A = ℕ} 512 255)
 
 module _ (m k j : ℕ) (h : 512 ≡ j + m) (l : k ≤ 512) where
-  whole : rulerBytes ≡ zeros j ++ ((zeros m ++ ones k) ++ ones (512 - k))
-  unfolding rulerBytes zeros ones
+  whole : rulerBytes ≡ highs j ++ ((highs m ++ ones k) ++ ones (512 - k))
+  unfolding rulerBytes highs ones
   whole =
       let f : 512 ≡ k + (512 - k) = omega arith in
-      ap₂ _++_ (split j m 0 h) (split k (512 - k) 255 f)
-      ∙ append-assoc (zeros j) (zeros m) (ones k ++ ones (512 - k))
-      ∙ ap (_++_ (zeros j)) (sym (append-assoc (zeros m) (ones k) (ones (512 - k))))
+      ap₂ _++_ (split j m 128 h) (split k (512 - k) 255 f)
+      ∙ append-assoc (highs j) (highs m) (ones k ++ ones (512 - k))
+      ∙ ap (_++_ (highs j)) (sym (append-assoc (highs m) (ones k) (ones (512 - k))))
 
-  width : length (zeros m ++ ones k) ≡ m + k
-  unfolding ones
-  width = length-append (zeros m) (ones k) ∙ ap₂ _+_ (length-zeros m) (length-replicate k 255)
+  width : length (highs m ++ ones k) ≡ m + k
+  unfolding highs ones
+  width = length-append (highs m) (ones k) ∙ ap₂ _+_ (length-replicate m 128) (length-replicate k 255)
 
-  -- the ruler laid so that its zeros end after m bytes
-  laid : take (m + k) (drop j rulerBytes) ≡ zeros m ++ ones k
+  -- the ruler laid so that its highest bits end after m bytes
+  laid : take (m + k) (drop j rulerBytes) ≡ highs m ++ ones k
+  unfolding highs
   laid =
       ap (λ (r : Bytes). take (m + k) (drop j r)) whole
-      ∙ ap (take (m + k)) (drop-at (zeros j) ((zeros m ++ ones k) ++ ones (512 - k)) j (length-zeros j))
-      ∙ take-at (zeros m ++ ones k) (ones (512 - k)) (m + k) width
+      ∙ ap (take (m + k)) (drop-at (highs j) ((highs m ++ ones k) ++ ones (512 - k)) j (length-replicate j 128))
+      ∙ take-at (highs m ++ ones k) (ones (512 - k)) (m + k) width
+
+-- the highest bit is not set where a byte is ASCII
+high : (b : ℕ) → b < 256 → eqb 0 (bitAnd b 128) ≡ ltb b 128
+high b h = go (decLt b 128)
+  where
+    go : Dec (b < 128) → eqb 0 (bitAnd b 128) ≡ ltb b 128
+    go (yes l) = ap (eqb 0) (sym (eq-on (λ (x : ℕ). bitAnd x 128) 0 128 0 tt b (omega arith) (omega arith))) ∙ sym (lt-ltb b 128 l)
+    go (no l) = ap (eqb 0) (sym (eq-on (λ (x : ℕ). bitAnd x 128) 128 128 128 tt b (omega arith) (omega arith))) ∙ sym (le-ltb b 128 (omega arith))
 
 kept : (b : ℕ) → b < 256 → bitAnd b 255 ≡ b
 kept b h = and-mask b 8 ∙ (omega arith)
 
-leaves : (s : Bytes) (m k : ℕ) → length s ≡ m + k → Octets s → under s (zeros m ++ ones k) ≡ zeros m ++ drop m s
-unfolding under zeros ones
+leaves : (s : Bytes) (m k : ℕ) → length s ≡ m + k → Octets s → blank (under s (highs m ++ ones k)) ≡ plain (take m s) && blank (drop m s)
+unfolding under highs ones plain blank same zeros
 leaves [] zero zero h o = refl
 leaves [] zero (suc k) h o = absurd (omega arith)
 leaves [] (suc m) k h o = absurd (omega arith)
 leaves (b ∷ s) zero zero h o = absurd (omega arith)
-leaves (b ∷ s) zero (suc k) h o = ap₂ _∷_ (kept b (o 0)) (leaves s zero k (omega arith) (λ i. o (suc i)))
-leaves (b ∷ s) (suc m) k h o = ap₂ _∷_ (and-zero-r b) (leaves s m k (omega arith) (λ i. o (suc i)))
+leaves (b ∷ s) zero (suc k) h o = ap₂ (λ (x : ℕ) (y : Bool). eqb 0 x && y) (kept b (o 0)) (leaves s zero k (omega arith) (λ i. o (suc i)))
+leaves (b ∷ s) (suc m) k h o =
+    ap₂ _&&_ (high b (o 0)) (leaves s m k (omega arith) (λ i. o (suc i)))
+    ∙ sym (and-assoc (ltb b 128) (plain (take m s)) (blank (drop m s)))
 
--- the bytes behind the string are zero where what the ruler leaves is
-pub behind-string :
+-- what the ruler leaves of a room whose first m bytes are its string
+pub left-of-room :
     (s : Bytes) (m : ℕ) → m ≤ length s → length s ≤ 512 → Octets s →
-    blank (under s (take (length s) (drop (512 - m) rulerBytes))) ≡ blank (drop m s)
-behind-string s m l h o =
+    blank (under s (take (length s) (drop (512 - m) rulerBytes))) ≡ plain (take m s) && blank (drop m s)
+left-of-room s m l h o =
     let e : length s ≡ m + (length s - m) = omega arith in
     ap (λ (n : ℕ). blank (under s (take n (drop (512 - m) rulerBytes)))) e
     ∙ ap (λ (r : Bytes). blank (under s r)) (laid m (length s - m) (512 - m) (omega arith) (omega arith))
-    ∙ ap blank (leaves s m (length s - m) e o)
-    ∙ blank-append (zeros m) (drop m s)
-    ∙ rw (blank-zeros m)
-
--- ---- a room of n bytes in a payload, as the code lends it
-
-module _ (p : Bytes) (at n : ℕ) {m : ℕ} (l : m ≤ n) {h : Held} (k : Holds (take (at + 2 + n - (at + 2)) (drop (at + 2) p)) m h) where
-  module _ (good : Bytes → Bool) (e : m ≡ numberAt 2 p at) (r : at + (2 + n) ≤ length p) (o : Octets p) where
-    held : sound (string n good) (take (2 + n) (drop at p)) ≡ good (take m (drop (at + 2) p)) && eqb (h .behind) 0
-    held =
-        let f : n ≡ m + (n - m) = omega arith in
-        let b = k .behind ∙ ap (λ (x : Bytes). blank (drop m x)) (part-lent p (at + 2) n) ∙ ap (λ (w : ℕ). blank (drop m (take w (drop (at + 2) p)))) f ∙ ap blank (part-drop p (at + 2) m (n - m)) in
-        string-sound n good p at r o (omega arith)
-        ∙ ap (λ (w : ℕ). good (take w (drop (at + 2) p)) && blank (take (n - w) (drop (at + 2 + w) p))) (sym e)
-        ∙ ap (λ (x : Bool). good (take m (drop (at + 2) p)) && x) (sym b)
-
-    -- a slot with a byte behind its string is not sound
-    pub string-littered : (h .behind ≡ 0 → ⊥) → false ≡ sound (string n good) (take (2 + n) (drop at p))
-    string-littered t = sym (held ∙ rw (ne-eqb (h .behind) 0 t) (and-false (good (take m (drop (at + 2) p)))))
-
-    -- a slot with zeros there is sound where its string is good
-    pub string-clean : h .behind ≡ 0 → good (take (at + 2 + m - (at + 2)) (drop (at + 2) p)) ≡ sound (string n good) (take (2 + n) (drop at p))
-    string-clean t = ap good (part-lent p (at + 2) m) ∙ sym (held ∙ rw (eq-eqb (h .behind) 0 t) (and-true (good (take m (drop (at + 2) p)))))
-
-  -- the string in a room of ASCII is ASCII
-  pub string-plain : ltb (h .all) 128 ≡ true → plain (take (at + 2 + m - (at + 2)) (drop (at + 2) p)) ≡ true
-  string-plain t =
-      ap plain (part-lent p (at + 2) m ∙ sym (part-front p (at + 2) m n l))
-      ∙ plain-take m (take n (drop (at + 2) p)) (ap plain (sym (part-lent p (at + 2) n)) ∙ sym (k .all) ∙ t)
+    ∙ leaves s m (length s - m) e o

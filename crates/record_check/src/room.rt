@@ -1,41 +1,37 @@
 // A string's room: the string, and what stands behind it. Both are tested in one loop whose number of turns is the room's and not the
 // string's, so that LLVM takes many bytes at a time and the processor foresees each turn.
 //
-// For that a ruler is laid along the room: 512 zeros, the width of the widest room, and then 512 bytes of ones. Its zeros end where the
-// string ends, so `and` with it leaves what stands behind the string.
+// For that a ruler is laid along the room: 512 bytes of the highest bit alone, the width of the widest room, and then 512 bytes of ones.
+// The former end where the string ends: `and` with the ruler leaves the highest bits of the string, which ASCII has not, and all that
+// stands behind it.
 ghost use mathlib.Core.Path.{_≡_};
+ghost use mathlib.Core.Bool.{_&&_};
 ghost use Prim.Native.Nat.{_≤_};
-ghost use lib.ListN.{length};
-ghost use Rattle.record_check.specs.Ruler.{rulerBytes, Joins, Holds};
+ghost use lib.ListN.{length, take, drop};
+ghost use Rattle.octets.specs.Bytes.{blank};
+ghost use Rattle.definition.specs.Utf8Laws.{plain};
+ghost use Rattle.record_check.specs.Ruler.{rulerBytes, under};
 
-// The or of all bytes of a room, and of those behind its string.
-pub(crate) struct Held {
-    pub(crate) all: u8,
-    pub(crate) behind: u8,
-}
-
-// The or of the room's bytes, and of what `and` with the ruler leaves of them.
-fn joined(room: &[u8], ruler: &[u8]) -> Held
+// Whether `and` with the ruler leaves nothing of the room.
+fn is_clear(room: &[u8], ruler: &[u8]) -> bool
     requires { ⌜ length (now room) ≡ length (now ruler) ⌝ }
-    ensures { λ r. ⌜ Joins (now (room .entry)) (now (ruler .entry)) r ⌝ }
+    ensures { λ r. ⌜ r ≡ blank (under (now (room .entry)) (now (ruler .entry))) ⌝ }
 {
-    let mut all: u8 = 0;
-    let mut behind: u8 = 0;
+    let mut x: u8 = 0;
     let mut i = 0;
     while i < room.len() {
-        all = all | room[i];
-        behind = behind | (room[i] & ruler[i]);
+        x = x | (room[i] & ruler[i]);
         i += 1;
     }
-    Held { all, behind }
+    x == 0
 }
 
-// What a room holds whose first m bytes are the string.
-pub(crate) fn look(room: &[u8], ruler: &[u8], m: usize) -> Held
+// Whether the first m bytes of a room are ASCII, and the others zero.
+pub(crate) fn is_plain(room: &[u8], ruler: &[u8], m: usize) -> bool
     requires { ⌜ (m ≤ length (now room)) × (length (now room) ≤ 512) × (now ruler ≡ rulerBytes) ⌝ }
-    ensures { λ r. ⌜ Holds (now (room .entry)) m r ⌝ }
+    ensures { λ r. ⌜ r ≡ plain (take m (now (room .entry))) && blank (drop m (now (room .entry))) ⌝ }
 {
     let a = 512 - m;
     let e = a + room.len();
-    joined(room, &ruler[a..e])
+    is_clear(room, &ruler[a..e])
 }

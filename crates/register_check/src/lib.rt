@@ -13,6 +13,9 @@ use model::Record;
 // The length of the ruler by which the rooms of strings are tested (record_check): twice the widest room.
 const RULER: usize = 1024;
 
+// A byte's highest bit.
+const HIGH: u8 = 128;
+
 // Index of each chain's last record, 0 for none.
 pub struct Lasts {
     pub active: u32,
@@ -250,6 +253,6 @@ pub fn check(register: &[u8]) -> Checked
         return Checked::Unsound;
     };
     let mut ruler = [255u8; RULER];
-    octets::put_zeros(&mut ruler, 0, Record::DETAILS);
+    octets::put_bytes(&mut ruler, 0, &[HIGH; Record::DETAILS]);
     chains(register, capacity, &ruler)
 }

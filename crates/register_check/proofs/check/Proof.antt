@@ -11,8 +11,8 @@ returns c = wrong-header _ (found _ (c .enum-told .given .1) (c .before .before 
 
 chains-requires : tie.Need-chains-requires
 chains-requires c κs =
-    let f = c .before .before .before .before .before in
-    (found _ (f .found .given .1) (f .before .before .header .ensures), c .before .before .put-zeros .ensures ∙ ruler-made)
+    let f = c .before .before .before .before .before .before in
+    (found _ (f .found .given .1) (f .before .before .header .ensures), c .before .before .put-bytes .ensures ∙ ruler-made)
 
 pub check-spec : {M : Type 1} → statement M
 check-spec =
@@ -22,6 +22,7 @@ check-spec =
     (λ c. search needs)
     (λ c. search needs)
     returns
+    (λ c. search needs)
     (λ c. search needs)
     (λ c κs. search needs)
     (λ c. search needs)

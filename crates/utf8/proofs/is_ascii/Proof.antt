@@ -7,7 +7,7 @@ use lib.Dec.{ltb}
 use lib.ListN.{length, take}
 use lib.Seq.{take-all}
 use Rattle.definition.specs.Utf8Laws.{plain}
-use Rattle.utf8.specs.PlainLaws.{plain-step}
+use Rattle.utf8.proofs.Plain.{plain-step}
 use Rattle.utf8.proofs.is_ascii.Statement.{statement}
 use Rattle.utf8.proofs.is_ascii.Tie as tie
 

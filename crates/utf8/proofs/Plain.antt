@@ -1,15 +1,15 @@
--- ASCII: strings put together and their beginnings, and a loop that joins bytes by or.
+-- ASCII, seen by a loop that joins bytes by or.
 use mathlib.Core.Path.{_≡_, refl, sym, ap, _∙_}
-use mathlib.Core.Bool.{Bool, true, _&&_}
+use mathlib.Core.Bool.{Bool, _&&_}
 use mathlib.Core.List.{[], _∷_, _++_}
 use Prim.Native.Nat.{ℕ, _+_, _<_}
 use native.Mathlib.Numerals.{add-one}
 use lib.Dec.{ltb}
 use lib.Bits.{bitOr}
-use lib.ListN.{length, take, drop, getD, take-append-drop}
+use lib.ListN.{length, take, getD}
 use lib.Seq.{take-suc}
 use Rattle.octets.specs.Bytes.{Bytes}
-use Rattle.octets.specs.BoolLaws.{and-assoc, and-true, holds, true-holds, both-left}
+use Rattle.octets.specs.BoolLaws.{and-assoc, and-true}
 use Rattle.octets.specs.OrLaws.{or-below}
 use Rattle.definition.specs.Utf8Laws.{plain}
 
@@ -17,10 +17,6 @@ plain-append : (s t : Bytes) → plain (s ++ t) ≡ plain s && plain t
 unfolding plain
 plain-append [] t = refl
 plain-append (b ∷ s) t = rw (plain-append s t) (sym (and-assoc (ltb b 128) (plain s) (plain t)))
-
--- the beginning of an ASCII string is ASCII
-pub plain-take : (n : ℕ) (s : Bytes) → plain s ≡ true → plain (take n s) ≡ true
-plain-take n s e = holds _ (both-left (plain (take n s)) (plain (drop n s)) (true-holds _ (sym (plain-append (take n s) (drop n s)) ∙ ap plain (take-append-drop n s) ∙ e)))
 
 -- one more byte joined by or
 pub plain-step : (s : Bytes) (i x : ℕ) → i < length s → ltb x 128 ≡ plain (take i s) → ltb (bitOr x (getD s i 0)) 128 ≡ plain (take (i + 1) s)
