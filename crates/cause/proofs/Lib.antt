@@ -2,3 +2,4 @@ pub mod Places
 pub mod Trim
 pub mod Dotted
 pub mod Ways
+pub mod Lengths

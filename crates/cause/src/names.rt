@@ -4,7 +4,7 @@ ghost use mathlib.Core.List.{[]};
 ghost use Prim.Native.Nat.{_+_, _≤_, _<_};
 ghost use lib.ListN.{getD, length, take, drop};
 ghost use Rattle.octets.specs.Bytes.{same, splice};
-ghost use Rattle.definition.specs.Cause.{names};
+ghost use Rattle.definition.specs.Cause.{names, oneOf};
 ghost use Rattle.cause.specs.Meaning.{named, startOf};
 
 // Which of the names a string is.
@@ -122,6 +122,51 @@ pub(crate) fn name(s: &[u8]) -> Named
         k += 1;
     }
     Named::Nothing
+}
+
+// Whether s is the text given. All bytes are compared in one loop with one way out: LLVM takes many at a time.
+fn is_text(s: &[u8], text: &[u8]) -> bool
+    ensures { λ r. ⌜ r ≡ same (now (text .entry)) (now (s .entry)) ⌝ }
+{
+    if s.len() != text.len() {
+        return false;
+    }
+    let mut x: u8 = 0;
+    let mut i = 0;
+    while i < text.len() {
+        x = x | (text[i] ^ s[i]);
+        i += 1;
+    }
+    x == 0
+}
+
+// Whether s is one of the names, which is asked of every record at each call. Those of one length are few, and each is a short literal: none
+// of the tables above is copied.
+pub(crate) fn is_one(s: &[u8]) -> bool
+    ensures { λ r. ⌜ r ≡ oneOf names (now (s .entry)) ⌝ }
+{
+    match s.len() {
+        10 => is_text(s, b"lease-lost"),
+        12 => is_text(s, b"sbi-overload"),
+        15 => is_text(s, b"backend-timeout")
+            | is_text(s, b"nrf-unreachable")
+            | is_text(s, b"key-unavailable"),
+        16 => is_text(s, b"peer-unreachable"),
+        18 => is_text(s, b"storage-corruption") | is_text(s, b"li-delivery-failed"),
+        19 => is_text(s, b"config-apply-failed")
+            | is_text(s, b"certificate-expired")
+            | is_text(s, b"audit-chain-invalid"),
+        20 => is_text(s, b"certificate-expiring")
+            | is_text(s, b"identity-unavailable")
+            | is_text(s, b"security-break-glass"),
+        21 => is_text(s, b"config-drift-detected") | is_text(s, b"packet-drop-threshold"),
+        22 => is_text(s, b"charging-export-failed"),
+        24 => is_text(s, b"privacy-policy-violation"),
+        25 => is_text(s, b"session-store-unavailable"),
+        26 => is_text(s, b"dataplane-preflight-failed"),
+        28 => is_text(s, b"authorization-policy-invalid"),
+        _ => false,
+    }
 }
 
 // Writes the name at k into buf from at on, and answers where it ends.
