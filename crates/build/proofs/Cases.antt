@@ -6,7 +6,7 @@ use Rattle.definition.specs.Slot.{string, option}
 use Rattle.definition.specs.Record.{anyBytes, objectSlot, scopeSlot}
 use Rattle.model.specs.declared.OptSpan.{OptSpan}
 use Rattle.model.specs.declared.AffectedObject.{AffectedObject}
-use Rattle.model.specs.Meaning.{optPart, objectValue, optWithin, objectWithin}
+use Rattle.model.specs.Meaning.{optPart, objectValue}
 use Rattle.policy.specs.declared.Scope.{Scope}
 use Rattle.policy.specs.Meaning.{scopeValue, scopeWithin}
 
@@ -21,11 +21,5 @@ module _ (call b : Bytes) {c : Bytes} where
   scope-slot e q = q ∙ ap (λ (x : Scope). splice b 631 (scopeSlot .put (scopeValue call x))) (sym e)
 
 module _ (call : Bytes) where
-  pub option-case : (n : ℕ) {s t : OptSpan} → s ≡ t → optWithin call n s → optWithin call n t
-  option-case n e w = subst (λ (x : OptSpan). optWithin call n x) e w
-
-  pub object-case : {o p : AffectedObject} → o ≡ p → objectWithin call o → objectWithin call p
-  object-case e w = subst (λ (x : AffectedObject). objectWithin call x) e w
-
   pub scope-case : {s t : Scope} → s ≡ t → scopeWithin call s → scopeWithin call t
   scope-case e w = subst (λ (x : Scope). scopeWithin call x) e w

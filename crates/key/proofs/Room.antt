@@ -1,5 +1,5 @@
 -- Laws of the room that each field takes in the buffer, and of the variant that the code has met. Assumes nothing.
-use mathlib.Core.Path.{_≡_, sym, ap, subst}
+use mathlib.Core.Path.{_≡_, sym, ap}
 use mathlib.Core.List.{[], _∷_, _++_}
 use Prim.Native.Nat.{ℕ, _+_, _≤_, _<_}
 use native.Mathlib.Omega.{arith}
@@ -56,12 +56,6 @@ module _ (call : Bytes) where
   pub option-wider : (p : OptSpan) → optWithin call shortLimit p → optWithin call regionLimit p
   option-wider Absent w = tt
   option-wider (Present p) w = wider p w
-
-  pub option-case : (n : ℕ) {p q : OptSpan} → p ≡ q → optWithin call n p → optWithin call n q
-  option-case n e w = subst (λ (x : OptSpan). optWithin call n x) e w
-
-  pub object-case : {o p : AffectedObject} → o ≡ p → objectWithin call o → objectWithin call p
-  object-case e w = subst (λ (x : AffectedObject). objectWithin call x) e w
 
   pub fed-case : {o p : AffectedObject} → o ≡ p → fedObject (objectValue call p) ≡ fedObject (objectValue call o)
   fed-case e = ap (λ (x : AffectedObject). fedObject (objectValue call x)) (sym e)

@@ -1,3 +1,4 @@
 pub mod Meaning
+pub mod CaseLaws
 pub mod Opening
 pub mod OpeningLaws

@@ -4,7 +4,8 @@ use borrow.Author.Needs.{needs}
 use denote.Ref.{now}
 use Rattle.definition.specs.Limits.{detailsLimit}
 use Rattle.model.specs.declared.OptSpan.{OptSpan}
-use Rattle.model.specs.Meaning.{optPart, optWithin}
+use Rattle.model.specs.Meaning.{optPart}
+use Rattle.model.specs.CaseLaws.{option-case}
 use Rattle.record.specs.Change.{withDetails}
 use Rattle.changes.specs.Meaning.{Turns}
 use Rattle.changes.proofs.set_details.Statement.{statement}
@@ -13,7 +14,7 @@ use Rattle.changes.proofs.set_details.Tie as tie
 put-details-requires : tie.Need-put-details-requires
 put-details-requires c κs =
     let m = c .before .before in
-    let s = m .before .before .before .before in (search needs, subst (λ (d : OptSpan). optWithin (now (s .args .call)) detailsLimit d) (m .details .given .1) (s .pre .1))
+    let s = m .before .before .before .before in (search needs, option-case (now (s .args .call)) detailsLimit (m .details .given .1) (s .pre .1))
 
 returns : tie.Need-returns
 returns c =

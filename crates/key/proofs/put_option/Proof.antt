@@ -1,7 +1,8 @@
 -- `put_option` meets its contract: a byte, and the string behind it where there is one.
 use mathlib.Core.Path.{refl}
 use Rattle.octets.specs.PutLaws.{put-two, put-as}
-use Rattle.key.proofs.Room.{option-case, option-fed}
+use Rattle.model.specs.CaseLaws.{option-case}
+use Rattle.key.proofs.Room.{option-fed}
 use borrow.Author.Needs.{needs}
 use Rattle.key.proofs.put_option.Statement.{statement}
 use Rattle.key.proofs.put_option.Tie as tie

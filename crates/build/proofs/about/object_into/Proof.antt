@@ -1,5 +1,6 @@
 -- Each kind in its slot.
-use Rattle.build.proofs.Cases.{object-case, object-slot}
+use Rattle.model.specs.CaseLaws.{object-case}
+use Rattle.build.proofs.Cases.{object-slot}
 use borrow.Author.Needs.{needs}
 use Rattle.build.proofs.about.object_into.Statement.{statement}
 use Rattle.build.proofs.about.object_into.Tie as tie

@@ -1,6 +1,7 @@
 -- Zeros, or byte 1 and the string.
 use Rattle.build.proofs.Lent.{absent}
-use Rattle.build.proofs.Cases.{option-case, option-slot}
+use Rattle.model.specs.CaseLaws.{option-case}
+use Rattle.build.proofs.Cases.{option-slot}
 use borrow.Author.Needs.{needs}
 use Rattle.build.proofs.slots.option_into.Statement.{statement}
 use Rattle.build.proofs.slots.option_into.Tie as tie
