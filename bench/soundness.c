@@ -1,27 +1,32 @@
 /* What the check of a register's soundness costs. Every call starts with it; an empty call is refused (23) right after it, so the time of
    alarm_step with an empty call is the check's own.
 
-   Three registers of each size: all records free; full of typical alarms whose strings have the same lengths in all records (alike); and
-   full of alarms whose strings vary by a quarter around these lengths (varied), which a processor foresees less well. Printed are
-   nanoseconds per record (the least and the median of many runs) and bytes per second (of the least), and beside them those of a bare read
-   of the same bytes.
+   Four registers of each size: all records free; full of typical alarms whose strings have the same lengths in all records (alike); full
+   of alarms whose strings vary by a quarter around these lengths (varied), which a processor foresees less well; and those again with two
+   letters in each text that are not ASCII (accented). Printed are nanoseconds per record (the least and the median of many runs) and bytes
+   per second (of the least), and beside them those of a bare read of the same bytes.
+
+   Each is measured twice: in memory of ordinary pages, and of large ones, for which a program asks Linux by madvise. A register of 154 MB
+   has more ordinary pages than a processor keeps in mind.
 
    Alarms are written into the register's bytes here, by the offsets of docs/layout.json: each raise checks the whole register, so that
    filling it by calls would take time with the square of its records.
 
      rt staticlib station
      cc -O3 -Wall -Wextra bench/soundness.c target/staticlib/libstation.a -o target/soundness && target/soundness */
+#define _DEFAULT_SOURCE
 #include <stdint.h>
 #include <stdio.h>
 #include <stdlib.h>
 #include <string.h>
+#include <sys/mman.h>
 #include <time.h>
 
 uint32_t alarm_open(uint8_t *reg, size_t reg_len, uint32_t active, uint32_t history, uint32_t audit, uint64_t *length);
 uint32_t alarm_step(uint8_t *reg, size_t reg_len, const uint8_t *call, size_t call_len, uint8_t *answer, size_t answer_len,
                     uint64_t *length);
 
-enum { WIDTH = 1536, NOT_SOUND = 22, EMPTY_CALL = 23 };
+enum { WIDTH = 1536, LARGE_PAGE = 2 << 20, NOT_SOUND = 22, EMPTY_CALL = 23 };
 
 /* A register is measured so often that this many records are looked at: small ones more often than large ones. */
 enum { LEAST_RECORDS = 1000, LOOKED_AT = 2100000, MOST_RUNS = LOOKED_AT / LEAST_RECORDS };
@@ -39,8 +44,11 @@ typedef struct {
     uint32_t records, active, history, audit;
 } Register;
 
-/* Whether the strings of all records have the same lengths. */
-typedef enum { ALIKE, VARIED } Lengths;
+/* Linux's words for the pages of a register's memory. */
+typedef enum { ORDINARY = MADV_NOHUGEPAGE, LARGE = MADV_HUGEPAGE } Pages;
+
+/* What the strings of a register's alarms are. */
+typedef enum { ALIKE, VARIED, ACCENTED } Strings;
 
 typedef struct {
     double least, median;
@@ -70,14 +78,23 @@ static void open_register(Register r) {
         fail("a register was not opened");
 }
 
-static Register made(uint32_t records) {
+/* Memory of whole large pages, so that both kinds lie alike. */
+static uint8_t *memory(size_t size, Pages pages) {
+    size_t whole = (size + LARGE_PAGE - 1) / LARGE_PAGE * LARGE_PAGE;
+    uint8_t *bytes = aligned_alloc(LARGE_PAGE, whole);
+    if (bytes == NULL)
+        fail("no memory");
+    if (madvise(bytes, whole, (int)pages) != 0)
+        fail("the system has no such pages");
+    return bytes;
+}
+
+static Register made(uint32_t records, Pages pages) {
     Register r = {.size = (size_t)WIDTH * (1 + (size_t)records), .records = records};
     r.audit = 1;
     r.history = records / 2;
     r.active = records - r.history - r.audit;
-    r.bytes = malloc(r.size);
-    if (r.bytes == NULL)
-        fail("no memory");
+    r.bytes = memory(r.size, pages);
     open_register(r);
     return r;
 }
@@ -91,8 +108,8 @@ static uint32_t drawn(uint32_t n) {
     return x % n;
 }
 
-static uint32_t length_of(uint32_t typical, Lengths lengths) {
-    return lengths == ALIKE ? typical : typical - typical / 4 + drawn(typical / 2 + 1);
+static uint32_t length_of(uint32_t typical, Strings strings) {
+    return strings == ALIKE ? typical : typical - typical / 4 + drawn(typical / 2 + 1);
 }
 
 /* A string of n bytes that begins with the record's number. */
@@ -109,29 +126,37 @@ static void put_option(uint8_t *slot, uint32_t n, uint32_t i) {
     put_string(slot + 1, n, i);
 }
 
-static void put_cause(uint8_t *slot, Lengths lengths) {
+static void put_cause(uint8_t *slot, Strings strings) {
     static const char *const names[] = {"peer-unreachable", "lease-lost", "storage-corruption", "certificate-expiring",
                                         "security-break-glass"};
-    const char *name = names[lengths == ALIKE ? 0 : drawn(sizeof names / sizeof *names)];
+    const char *name = names[strings == ALIKE ? 0 : drawn(sizeof names / sizeof *names)];
     put(slot, strlen(name), 2);
     memcpy(slot + 2, name, strlen(name));
 }
 
+/* Two letters of two bytes each, within the shortest text. */
+static void put_accents(uint8_t *slot) {
+    memcpy(slot + 2 + 10, "\303\274", 2);
+    memcpy(slot + 2 + 30, "\303\266", 2);
+}
+
 /* An alarm: id, type, a cause by name, an object of two strings, tenant, text and details. */
-static void put_alarm(uint8_t *record, uint32_t i, Lengths lengths) {
+static void put_alarm(uint8_t *record, uint32_t i, Strings strings) {
     put(record + KEY, i, 16);
     record[SEVERITY] = 1;
     put(record + RAISED_AT, 1800000000000000000u + i, 8);
     put(record + UPDATED_AT, 1800000000000000000u + i, 8);
-    put_string(record + ID, length_of(20, lengths), i);
-    put_string(record + TYPE, length_of(14, lengths), i);
-    put_cause(record + CAUSE, lengths);
+    put_string(record + ID, length_of(20, strings), i);
+    put_string(record + TYPE, length_of(14, strings), i);
+    put_cause(record + CAUSE, strings);
     record[OBJECT_KIND] = 1;
-    put_string(record + OBJECT_FIRST, length_of(8, lengths), i);
-    put_string(record + OBJECT_SECOND, length_of(18, lengths), i);
-    put_option(record + TENANT, length_of(13, lengths), i);
-    put_string(record + TEXT, length_of(60, lengths), i);
-    put_option(record + DETAILS, length_of(80, lengths), i);
+    put_string(record + OBJECT_FIRST, length_of(8, strings), i);
+    put_string(record + OBJECT_SECOND, length_of(18, strings), i);
+    put_option(record + TENANT, length_of(13, strings), i);
+    put_string(record + TEXT, length_of(60, strings), i);
+    put_option(record + DETAILS, length_of(80, strings), i);
+    if (strings == ACCENTED)
+        put_accents(record + TEXT);
 }
 
 static void put_head(Register r, size_t head, uint32_t first, uint32_t count) {
@@ -140,20 +165,20 @@ static void put_head(Register r, size_t head, uint32_t first, uint32_t count) {
 }
 
 /* A chain of alarms in `count` records from `first` on. */
-static void put_chain(Register r, size_t head, uint32_t first, uint32_t count, Lengths lengths) {
+static void put_chain(Register r, size_t head, uint32_t first, uint32_t count, Strings strings) {
     put_head(r, head, first, count);
     for (uint32_t i = first; i < first + count; i++) {
         uint8_t *record = r.bytes + (size_t)WIDTH * i;
         put(record + NEXT, i + 1 < first + count ? i + 1 : 0, 4);
-        put_alarm(record, i, lengths);
+        put_alarm(record, i, strings);
     }
 }
 
 /* Active chain and history are full; the record for an audit event stays free. */
-static void fill(Register r, Lengths lengths) {
+static void fill(Register r, Strings strings) {
     open_register(r);
-    put_chain(r, ACTIVE_HEAD, 1, r.active, lengths);
-    put_chain(r, HISTORY_HEAD, 1 + r.active, r.history, lengths);
+    put_chain(r, ACTIVE_HEAD, 1, r.active, strings);
+    put_chain(r, HISTORY_HEAD, 1 + r.active, r.history, strings);
     put_head(r, FREE_HEAD, r.records, r.audit);
 }
 
@@ -228,24 +253,32 @@ static void print_times(Register r, Times t) {
 
 static void measure(Register r, const char *kind) {
     see_damage(r);
-    printf("%8u  %-6s", r.records, kind);
+    printf("%8u  %-8s", r.records, kind);
     print_times(r, check_times(r));
     print_times(r, read_times(r));
     printf("\n");
 }
 
-int main(void) {
+static void measure_all(const char *name, Pages pages) {
     const uint32_t sizes[] = {LEAST_RECORDS, 10000, 100000};
-    printf("                  check, ns per record       bare read, ns per record\n");
-    printf(" records             least   median    GB/s     least   median    GB/s\n");
+    printf("%-18s  check, ns per record       bare read, ns per record\n", name);
+    printf(" records               least   median    GB/s     least   median    GB/s\n");
     for (size_t k = 0; k < sizeof sizes / sizeof *sizes; k++) {
-        Register r = made(sizes[k]);
+        Register r = made(sizes[k], pages);
         measure(r, "free");
         fill(r, ALIKE);
         measure(r, "alike");
         fill(r, VARIED);
         measure(r, "varied");
+        fill(r, ACCENTED);
+        measure(r, "accented");
         free(r.bytes);
     }
+}
+
+int main(void) {
+    measure_all("ordinary pages", ORDINARY);
+    printf("\n");
+    measure_all("large pages", LARGE);
     return 0;
 }
