@@ -1,7 +1,8 @@
 # make test: all tests. make run: the examples, from a clone to the page of the book. make lib: the static library alone.
 # make compare: the long comparison with the model and the Rust. make bench: the register and the Rust measured side by
-# side. make fmt: the layout of every Rattle and antt file.
-.PHONY: test lib run compare bench fmt
+# side. make wrong: the wrong answers of docs/CLAIMS.md, which the prover must refuse. make fmt: the layout of every Rattle
+# and antt file.
+.PHONY: test lib run compare bench wrong fmt
 
 # rt ci proves every crate from nothing, tries the must-fail edits and runs the programs; the checks of tests/ follow.
 test:
@@ -25,6 +26,11 @@ compare: lib
 
 bench: lib
 	@python3 -B compare/bench $(ARGS)
+
+# `make wrong ARGS='CRATE ..'` tries those of some crates.
+wrong:
+	@rt check
+	@python3 -B tests/wrong.py $(ARGS)
 
 fmt:
 	@rt fmt
