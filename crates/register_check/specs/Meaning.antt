@@ -1,5 +1,5 @@
 -- What the check's answers say.
-use Prim.Native.Nat.{ℕ, _+_, _*_}
+use Prim.Native.Nat.{ℕ, _+_, _*_, _≤_}
 use mathlib.Core.Path.{_≡_}
 use mathlib.Core.Bool.{Bool, true, false}
 use lib.ListN.{take, drop}
@@ -51,6 +51,10 @@ number Active = 0
 number History = 1
 number Audit = 2
 number Free = 3
+
+-- r is the link of record i, where a register with m records has it
+abbrev pub Linked : Bytes → ℕ → ℕ → ℕ → Type 0
+Linked b m i r = (i ≡ 0 → ⊥) → i ≤ m → r ≡ at32 b (1536 * i)
 
 -- a walk over n records from i on, of a register with m: its links lead to 0, each record passes, and l is the last; or not so
 abbrev pub Walks : Walked → Kind → Bytes → ℕ → ℕ → ℕ → Type 0

@@ -7,7 +7,7 @@ ghost use Rattle.definition.specs.Book.{payloadWidth};
 ghost use Rattle.definition.specs.BookLegal.{Limit};
 ghost use Rattle.definition.specs.BookCheck.{Decides, Counts, Apart};
 ghost use Rattle.record_check.specs.Ruler.{rulerBytes};
-ghost use Rattle.register_check.specs.Meaning.{Chain, Gives, Headed, Heads, Walks, holds, number};
+ghost use Rattle.register_check.specs.Meaning.{Chain, Gives, Headed, Heads, Linked, Walks, holds, number};
 use model::Record;
 
 // The length of the ruler by which the rooms of strings are tested (record_check): twice the widest room.
@@ -62,12 +62,28 @@ fn payload_ok(kind: Kind, p: &[u8], ruler: &[u8]) -> bool
     }
 }
 
-// The way by links from `head` on: as many records as `count` says, each of 1 to `capacity` with a payload of its chain, and then 0.
+// The link of record i, or 0 where there is no such record.
+fn link_of(register: &[u8], capacity: u32, i: u32) -> u32
+    requires { ⌜ length (now register) ≡ recordWidth * (capacity + 1) ⌝ }
+    ensures { λ r. ⌜ Linked (now (register .entry)) capacity i r ⌝ }
+{
+    if i == 0 {
+        return 0;
+    }
+    if capacity < i {
+        return 0;
+    }
+    octets::get32(register, Record::WIDTH * (i as usize))
+}
+
+// The way by links from `head` on: as many records as `count` says, each of 1 to `capacity` with a payload of its chain, and then 0. The link
+// of the next record is read before a payload is tested, so that memory fetches the one while the processor tests the other.
 fn walk(register: &[u8], capacity: u32, kind: Kind, head: u32, count: u32, ruler: &[u8]) -> Walked
     requires { ⌜ (length (now register) ≡ recordWidth * (capacity + 1)) × (now ruler ≡ rulerBytes) ⌝ }
     ensures { λ r. ⌜ Walks r kind (now (register .entry)) capacity count head ⌝ }
 {
     let mut at = head;
+    let mut next = link_of(register, capacity, head);
     let mut last = 0;
     let mut k = 0;
     while k < count {
@@ -77,14 +93,16 @@ fn walk(register: &[u8], capacity: u32, kind: Kind, head: u32, count: u32, ruler
         if capacity < at {
             return Walked::Broken;
         }
-        let link = Record::WIDTH * (at as usize);
-        let a = link + 4;
-        let e = link + Record::WIDTH;
+        let link = link_of(register, capacity, next);
+        let start = Record::WIDTH * (at as usize);
+        let a = start + 4;
+        let e = start + Record::WIDTH;
         if !payload_ok(kind, &register[a..e], ruler) {
             return Walked::Broken;
         }
         last = at;
-        at = octets::get32(register, link);
+        at = next;
+        next = link;
         k += 1;
     }
     if at != 0 {

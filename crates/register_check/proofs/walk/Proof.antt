@@ -1,46 +1,52 @@
--- At each turn the records passed are of the chain, and the rest of the way decides.
+-- At each turn the records passed are of the chain, the rest of the way decides, and the next record is known.
 use mathlib.Core.Path.{_∙_, sym}
 use borrow.Author.Tests.{not-true, not-false}
 use Prim.Native.Nat.{_-_}
 use borrow.Author.Needs.{needs}
 use Rattle.definition.specs.BookWalkLaws.{went-zero, went-past, went-stray}
-use Rattle.register_check.specs.Meaning.{passes}
+use Rattle.register_check.specs.Meaning.{Linked, passes}
 use Rattle.register_check.specs.WalkLaws.{Tested, tested-start, tested-on, tested-not, tested-end, payload-of}
 use Rattle.register_check.proofs.walk.Statement.{statement}
 use Rattle.register_check.proofs.walk.Tie as tie
 
 abbrev Inv-loop : tie.InvT-loop
-Inv-loop register capacity kind head count ruler at₀ last₀ k₀ at last k = Tested (passes kind) register capacity count head at last k
+Inv-loop register capacity kind head count ruler at₀ next₀ last₀ k₀ at next last k =
+    Tested (passes kind) register capacity count head at last k × Linked register capacity at next
 
 abbrev μ-loop : tie.MeasureT-loop
-μ-loop register capacity kind head count ruler at₀ last₀ k₀ at last k = count - k
+μ-loop register capacity kind head count ruler at₀ next₀ last₀ k₀ at next last k = count - k
 
 loop-holds : tie.Need-loop-holds Inv-loop μ-loop
-loop-holds c = tested-start _ _ _ _ _
+loop-holds c = (tested-start _ _ _ _ _, c .link-of .ensures)
 
 returns : tie.Need-returns Inv-loop μ-loop
-returns c = let l = c .before .before .loop in λ p e. went-zero _ _ _ _ (l .at) (l .last) (l .k) (l .inv .went) (search needs) (c .if1 .taken) p
+returns c = let l = c .before .before .loop in λ p e. went-zero _ _ _ _ (l .at) (l .last) (l .k) (l .inv .0 .went) (search needs) (c .if1 .taken) p
 
 returns-2 : tie.Need-returns-2 Inv-loop μ-loop
-returns-2 c = let l = c .before .before .before .loop in λ p e. went-past _ _ _ _ (l .at) (l .last) (l .k) (l .inv .went) (search needs) (c .if2 .taken) p
+returns-2 c = let l = c .before .before .before .loop in λ p e. went-past _ _ _ _ (l .at) (l .last) (l .k) (l .inv .0 .went) (search needs) (c .if2 .taken) p
 
 returns-3 : tie.Need-returns-3 Inv-loop μ-loop
 returns-3 c =
-    let l = c .before .before .before .before .before .before .loop in
-    let a = c .before .before .before .before .before .before .before .before .before .args in
-    λ p. tested-not _ _ _ _ _ (l .at) (l .last) (l .k) (l .inv) (search needs) (sym (payload-of (a .kind) (a .register .now) (l .at)) ∙ sym (c .before .payload-ok .ensures) ∙ not-true _ (c .if3 .taken))
+    let l = c .before .before .before .before .before .before .before .loop in
+    let a = c .before .before .before .before .before .before .before .before .before .before .before .args in
+    λ p. tested-not _ _ _ _ _ (l .at) (l .last) (l .k) (l .inv .0) (search needs) (sym (payload-of (a .kind) (a .register .now) (l .at)) ∙ sym (c .before .payload-ok .ensures) ∙ not-true _ (c .if3 .taken))
 
 loop-again : tie.Need-loop-again Inv-loop μ-loop
 loop-again c =
-    let l = c .before .before .before .before .before .before .before .loop in
-    let a = c .before .before .before .before .before .before .before .before .before .before .args in
-    tested-on _ _ _ _ _ (l .at) (l .last) (l .k) (l .inv) (search needs) (c .before .before .before .before .before .if1 .left) (search needs) (sym (payload-of (a .kind) (a .register .now) (l .at)) ∙ sym (c .before .before .payload-ok .ensures) ∙ not-false _ (c .before .if3 .left)) _ (c .get32 .ensures)
+    let n = c .before .before .before in
+    let l = n .before .before .before .before .loop in
+    let a = n .before .before .before .before .before .before .before .before .args in
+    let nz = n .before .before .if1 .left in (
+      tested-on _ _ _ _ _ (l .at) (l .last) (l .k) (l .inv .0) (search needs) nz (search needs)
+          (sym (payload-of (a .kind) (a .register .now) (l .at)) ∙ sym (c .before .payload-ok .ensures) ∙ not-false _ (c .if3 .left)) _ (l .inv .1 nz (search needs)),
+      n .link-of2 .ensures,
+    )
 
 returns-4 : tie.Need-returns-4 Inv-loop μ-loop
-returns-4 c = let l = c .before .before .loop in λ p e. went-stray _ _ _ _ (l .at) (l .last) (l .k) (l .inv .went) (search needs) (c .if4 .taken) p
+returns-4 c = let l = c .before .before .loop in λ p e. went-stray _ _ _ _ (l .at) (l .last) (l .k) (l .inv .0 .went) (search needs) (c .if4 .taken) p
 
 returns-5 : tie.Need-returns-5 Inv-loop μ-loop
-returns-5 c = let l = c .before .before .loop in tested-end _ _ _ _ _ (l .at) (l .last) (l .k) (l .inv) (search needs) (c .if4 .left)
+returns-5 c = let l = c .before .before .loop in tested-end _ _ _ _ _ (l .at) (l .last) (l .k) (l .inv .0) (search needs) (c .if4 .left)
 
 pub walk-spec : {M : Type 1} → statement M
 walk-spec =
@@ -48,9 +54,11 @@ walk-spec =
     (tie.spec
     Inv-loop
     μ-loop
+    (λ c κs. search needs)
     loop-holds
     returns
     returns-2
+    (λ c κs. search needs)
     (λ c. search needs)
     (λ c. search needs)
     (λ c. search needs)
@@ -60,7 +68,6 @@ walk-spec =
     (λ c. search needs)
     (λ c κs. search needs)
     returns-3
-    (λ c κs. search needs)
     (λ c. search needs)
     (λ c. search needs)
     loop-again
