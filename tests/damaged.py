@@ -16,7 +16,7 @@ LIMITS, MODEL = "crates/definition/specs/Limits.antt", "crates/model/src/lib.rt"
 CODE, SPECS, LAWS = "crates/octets/src/lib.rt", "crates/octets/specs/Bytes.antt", "crates/octets/specs/BoolLaws.antt"
 VECTORS = "crates/sha256_vectors/stdout"
 JSON, PAGE, CLAIMS = "docs/layout.json", "docs/LAYOUT.md", "docs/CLAIMS.md"
-HEADER = "include/alarm_register.h"
+HEADER, WRONG = "include/alarm_register.h", "tests/wrong/octets.txt"
 
 # For each check: what is damaged, in which file, the pattern, and what takes its place.
 DAMAGES = {
@@ -106,6 +106,10 @@ DAMAGES = {
     (repository, "claims are there, one for each public function"): [
         ("a theorem that is not there", CLAIMS, r"`published`", "`publicised`"),
         ("a public function left out", CLAIMS, r"`put_zeros`", "`put_bytes`"),
+    ],
+    (repository, "wrong answers fit the code"): [
+        ("a function that is not there", WRONG, r"^== get16:", "== get17:"),
+        ("a text that is not there", WRONG, r"^- let mut i = 0;", "- let mut i = 2;"),
     ],
     (repository, "sentences have their definitions"): [
         ("a definition renamed", "crates/definition/specs/Steps.antt", r"\bmakeRoom\b", "makePlace"),

@@ -7,6 +7,7 @@ import subprocess
 import sys
 import tempfile
 
+import wrong
 from checklist import Skip, run
 
 # Symbols that a reader of a contract takes for the library's, and the only module that may give them.
@@ -201,6 +202,16 @@ def claims(root):
             yield f"{where}: {name} is not in docs/CLAIMS.md"
 
 
+def answers(root):
+    """Each wrong answer of tests/wrong can be put into the function that it names."""
+    for path in sorted((root / "tests/wrong").glob("*.txt")):
+        for edit in wrong.edits(path.stem, root):
+            try:
+                wrong.changed((root / "crates" / path.stem / edit.file).read_text(encoding="utf-8"), edit)
+            except (OSError, ValueError) as error:
+                yield f"tests/wrong/{path.name}: {edit.function}: {edit.answer}: {error}"
+
+
 def sentences(root):
     """Each definition that docs/SENTENCES.md names is in a file of its row, and each of these files has one of them."""
     for number, row in enumerate((root / "docs/SENTENCES.md").read_text(encoding="utf-8").splitlines(), 1):
@@ -266,6 +277,7 @@ CHECKS = {
     "the definition has no code": definition,
     "README lists the crates": readme,
     "claims are there, one for each public function": claims,
+    "wrong answers fit the code": answers,
     "sentences have their definitions": sentences,
     "paths in documents are there": paths,
     "vectors are Python's": vectors,

@@ -33,9 +33,9 @@ FORM = re.compile(r"has no (field|`)|can be named from here|not in scope|cannot 
 AFTER = "was not admitted"
 
 
-def edits(crate):
+def edits(crate, root=ROOT):
     """The wrong answers of a crate."""
-    for part in re.split(r"^== ", (ROOT / f"tests/wrong/{crate}.txt").read_text(encoding="utf-8"), flags=re.M)[1:]:
+    for part in re.split(r"^== ", (root / f"tests/wrong/{crate}.txt").read_text(encoding="utf-8"), flags=re.M)[1:]:
         title, *rows = part.rstrip().split("\n")
         file, pairs = "src/lib.rt", []
         for row in rows:
