@@ -13,22 +13,21 @@ use Rattle.definition.specs.Value.{CallValue}
 use Rattle.definition.specs.Parse.{parseCall}
 use Rattle.definition.specs.Station.{Station, Outcome, done, stopped, fresh}
 use Rattle.definition.specs.Answer.{Answer, answerBytes}
-use Rattle.definition.specs.AnswerLaws.{size-blank}
 use Rattle.definition.specs.Book.{isLimit}
 use Rattle.definition.specs.BookReflectLaws.{limits-to}
 use Rattle.definition.specs.Opening.{Opened, opened, openOf}
 use Rattle.definition.specs.Perform.{perform}
 use Rattle.definition.specs.StepLaws.{lists}
-use Rattle.definition.specs.KindLaws.{Kind, kind, refuses, call-kind}
-use Rattle.definition.specs.PerformLaws.{listing}
+use Rattle.definition.specs.KindLaws.{kindOf, listing, Kind, kind, refuses, call-kind, lists-op}
 use Rattle.definition.specs.Fields.{LegalCall}
 use Rattle.definition.specs.ReadLaws.{call-legal}
-use Rattle.definition.specs.FieldLaws.{LegalStation, Answered, perform-legal, fresh-legalStation}
+use Rattle.definition.specs.FieldLaws.{LegalStation, Answered, perform-legal, fresh-legalStation, self-twin, left-legal, right-legal, twin-blank}
 use Rattle.definition.specs.Sound.{encode, sound}
 use Rattle.definition.specs.SoundLaws.{legal-reads, legal-sound}
-use Rattle.definition.specs.Blank.{blankStation, blankAnswer}
-use Rattle.definition.specs.BlindLaws.{blankOutcome}
-use Rattle.definition.specs.TwinLaws.{perform-blind}
+use Rattle.definition.specs.RelateLaws.{Both, both, neither}
+use Rattle.definition.specs.LikeLaws.{On, Told}
+use Rattle.definition.specs.TwinLaws.{twin}
+use Rattle.definition.specs.TwinStepLaws.{size-twin, perform-twin}
 use Rattle.definition.specs.MaskLaws.{mask-encode}
 use Rattle.definition.specs.MaskAnswerLaws.{mask-answer}
 use Rattle.definition.specs.Mask.{maskRegister, maskAnswer, listsRecords}
@@ -71,7 +70,7 @@ unfolding perform
 good op n s {c} (kind k) h l = go (perform c n s) (perform-legal c n s h l)
   where
     go : (o : Outcome Answer) → Answered (listing c) s o → Good op o
-    go (done x t) p = (p .0, p .1 ∙ k)
+    go (done x t) p = (p .0, p .1 ∙ ap (λ (i : ℕ). eqb (kindOf i) 8) k ∙ lists-op op)
     go (stopped m) p = tt
 good op n s refuses h l = tt
 
@@ -79,11 +78,9 @@ good op n s refuses h l = tt
 record Twin (b b′ : Bytes) : Type 0 where
   one : Station
   two : Station
-  legal-one : LegalStation one
-  legal-two : LegalStation two
+  on : On twin (length (one .active)) [] [] one two
   is-one : b ≡ encode one
   is-two : b′ ≡ encode two
-  same : blankStation one ≡ blankStation two
 
 -- the replies to twin calls
 record TwinReply (op : ℕ) (q q′ : Reply) : Type 0 where
@@ -96,26 +93,19 @@ record TwinReply (op : ℕ) (q q′ : Reply) : Type 0 where
 
 twin-register : (b b′ : Bytes) → Twin b b′ → maskRegister b ≡ maskRegister b′
 twin-register b b′ t =
-    ap maskRegister (t .is-one) ∙ mask-encode (t .one) (t .legal-one .chains) ∙ ap encode (t .same)
-    ∙ sym (ap maskRegister (t .is-two) ∙ mask-encode (t .two) (t .legal-two .chains))
+    ap maskRegister (t .is-one) ∙ mask-encode (t .one) (t .on .legal) ∙ ap encode (twin-blank (t .on))
+    ∙ sym (ap maskRegister (t .is-two) ∙ mask-encode (t .two) (t .on .legal′))
 
-module _ (op : ℕ) (b b′ : Bytes) (t : Twin b b′) where
-  twin-reply : (o o′ : Outcome Answer) → Good op o → Good op o′ → blankOutcome blankAnswer o ≡ blankOutcome blankAnswer o′ → TwinReply op (replyOf b o) (replyOf b′ o′)
-  twin-reply (done x s) (done x′ s′) g g′ e =
-      let xs : blankAnswer x ≡ blankAnswer x′ = cc in
-      let ss : blankStation s ≡ blankStation s′ = cc in
-      record {
-        number = refl;
-        sized = refl;
-        sized′ = refl;
-        length = sym (size-blank x) ∙ ap (λ y. length (answerBytes y)) xs ∙ size-blank x′;
-        answer = mask-answer op x (g .1) ∙ ap answerBytes xs ∙ sym (mask-answer op x′ (g′ .1));
-        register = record { one = s; two = s′; legal-one = g .0; legal-two = g′ .0; is-one = refl; is-two = refl; same = ss };
-      }
-  twin-reply (done x s) (stopped n) g g′ e = let z : _≡_ {A = ℕ} 0 1 = cc in absurd (omega arith)
-  twin-reply (stopped n) (done x s) g g′ e = let z : _≡_ {A = ℕ} 0 1 = cc in absurd (omega arith)
-  twin-reply (stopped n) (stopped m) g g′ e =
-      record { number = cc; sized = refl; sized′ = refl; length = refl; answer = refl; register = t }
+twin-reply : {i n op : ℕ} (b b′ : Bytes) → Twin b b′ → {o o′ : Outcome Answer} → Good op o → Good op o′ → Both (Told twin i n) o o′ → TwinReply op (replyOf b o) (replyOf b′ o′)
+twin-reply {op = op} b b′ t g g′ (both {a = x} {b = x′} q) = record {
+  number = refl;
+  sized = refl;
+  sized′ = refl;
+  length = size-twin x x′ (q .says);
+  answer = mask-answer op x (g .1) ∙ ap answerBytes (q .says) ∙ sym (mask-answer op x′ (g′ .1));
+  register = record { one = _; two = _; on = q .on; is-one = refl; is-two = refl };
+}
+twin-reply b b′ t g g′ (neither k) = record { number = refl; sized = refl; sized′ = refl; length = refl; answer = refl; register = t }
 
 -- the reply from a legal station's bytes
 step-legal : (b : Bytes) (s : Station) (c : Bytes) (n : ℕ) → LegalStation s → b ≡ encode s → stepOf b c n ≡ replyOf b (perform (parseCall c) n s)
@@ -157,11 +147,9 @@ twin-step : (b b′ c c′ : Bytes) (n n′ : ℕ) → Twin b b′ → Octets c 
 twin-step b b′ c c′ n n′ t o o′ w e =
     let s = t .one in
     let s′ = t .two in
-    let alike : blankOutcome blankAnswer (perform (parseCall c) n s) ≡ blankOutcome blankAnswer (perform (parseCall c′) n s′) =
-    sym (perform-blind (parseCall c) n .sees s) ∙ ap₂ (λ (x : CallValue) (y : Station). perform x n y) (twins-read c c′ w) (t .same) ∙ perform-blind (parseCall c′) n .sees s′ in
-    rw (← e, step-legal b s c n (t .legal-one) (t .is-one), step-legal b′ s′ c′ n (t .legal-two) (t .is-two))
-    (twin-reply (getD c 0 0) b b′ t (perform (parseCall c) n s) (perform (parseCall c′) n s′) (good-call c n s o (t .legal-one))
-    (rw (same-op c c′ w) (good-call c′ n s′ o′ (t .legal-two))) alike)
+    rw (← e, step-legal b s c n (left-legal (t .on)) (t .is-one), step-legal b′ s′ c′ n (right-legal (t .on)) (t .is-two))
+    (twin-reply b b′ t (good-call c n s o (left-legal (t .on))) (rw (same-op c c′ w) (good-call c′ n s′ o′ (right-legal (t .on))))
+    (perform-twin n (twins-read c c′ w) (call-legal c o) (call-legal c′ o′) .from s s′ (t .on)))
 
 twins : (b b′ : Bytes) (l l′ : List Made) → Twin b b′ → AllOctets l → AllOctets l′ → Trace b l → Trace b′ l′ → TwinLists (map asked l) (map asked l′) → AtEach Alike l l′
 twins b b′ [] [] t o o′ x y w = tt
@@ -177,7 +165,7 @@ fresh-twin : (a h e : ℕ) (b b′ : Bytes) → Fresh a h e b → Fresh a h e b�
 fresh-twin a h e b b′ f f′ =
     let p = opened-fresh a h e b f in
     let q = opened-fresh a h e b′ f′ in
-    record { one = fresh a h e; two = fresh a h e; legal-one = p .0; legal-two = p .0; is-one = p .1; is-two = q .1; same = refl }
+    record { one = fresh a h e; two = fresh a h e; on = self-twin (fresh a h e) (p .0); is-one = p .1; is-two = q .1 }
 
 pub claim : Claim
 claim =

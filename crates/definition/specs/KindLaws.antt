@@ -1,6 +1,6 @@
--- What a call is read as has its operation's kind: it lists alarms for operations 8 and 9, and for no other.
+-- What a call is read as is a call of the operation that its first byte names, or a refusal.
 use Prim.Native.Nat.{ℕ}
-use mathlib.Core.Path.{_≡_, refl}
+use mathlib.Core.Path.{_≡_, refl, sym}
 use mathlib.Core.List.{[], _∷_}
 use mathlib.Core.Bool.{Bool, true, false, cond}
 use lib.Dec.{eqb}
@@ -10,24 +10,46 @@ use Rattle.octets.specs.Bytes.{Bytes}
 use Rattle.definition.specs.Value.{CallValue}
 use Rattle.definition.specs.Reader.{Out, got, bad, Reader, next, _>>=_, give, into}
 use Rattle.definition.specs.Parse.{historyFields, fieldsOf, whole, parseCall}
-use Rattle.definition.specs.PerformLaws.{listing}
 use Rattle.definition.specs.Mask.{listsRecords}
 
--- a call of that kind, or a refusal
+-- the operation; 0 where there is none
+abbrev pub opOf : CallValue → ℕ
+opOf (CallValue.raise c) = 1
+opOf (CallValue.clear c) = 2
+opOf (CallValue.acknowledge p) = 3
+opOf (CallValue.suppress p) = 4
+opOf (CallValue.acknowledgePolicy p) = 5
+opOf (CallValue.suppressPolicy p) = 6
+opOf (CallValue.expire t) = 7
+opOf (CallValue.active v) = 8
+opOf (CallValue.history t l) = 9
+opOf CallValue.counts = 10
+opOf CallValue.summary = 11
+opOf (CallValue.takeAudit k) = 12
+opOf (CallValue.refused k) = 0
+
+-- the kind of its answers
+abbrev pub kindOf : ℕ → ℕ
+kindOf op = cond (eqb op 7) 7 (cond (listsRecords op) 8 0)
+
+abbrev pub listing : CallValue → Bool
+listing c = eqb (kindOf (opOf c)) 8
+
+-- a call of that operation, or a refusal
 pub data Kind (op : ℕ) : CallValue → Type 0 where
-  kind : {c : CallValue} → listing c ≡ listsRecords op → Kind op c
+  kind : {c : CallValue} → opOf c ≡ op → Kind op c
   refuses : {n : ℕ} → Kind op (CallValue.refused n)
 
 module _ (op : ℕ) where
-  -- what a reader reads is a call of that kind
+  -- what a reader reads is a call of that operation
   abbrev KindAt : Out CallValue → Type 0
-  KindAt (got c u) = listing c ≡ listsRecords op
+  KindAt (got c u) = opOf c ≡ op
   KindAt (bad n) = Unit {0}
 
   record Reads (r : Reader CallValue) : Type 0 where
     reads : (s : Bytes) → KindAt (r s)
 
-  give-reads : (c : CallValue) → listing c ≡ listsRecords op → Reads (give c)
+  give-reads : (c : CallValue) → opOf c ≡ op → Reads (give c)
   give-reads c h = record { reads = λ s. h }
 
   bind-reads : {A : Type 0} (m : Reader A) (k : A → Reader CallValue) → ((a : A) → Reads (k a)) → Reads (_>>=_ m k)
@@ -38,7 +60,7 @@ module _ (op : ℕ) where
       go (got a u) = h a .reads u
       go (bad n) = tt
 
-  into-reads : {A : Type 0} (c : A → CallValue) (r : Reader A) → ((a : A) → listing (c a) ≡ listsRecords op) → Reads (into c r)
+  into-reads : {A : Type 0} (c : A → CallValue) (r : Reader A) → ((a : A) → opOf (c a) ≡ op) → Reads (into c r)
   unfolding into
   into-reads c r h = bind-reads r _ (λ a. give-reads (c a) (h a))
 
@@ -53,18 +75,18 @@ module _ (op : ℕ) where
   fields-reads : Reads (fieldsOf op)
   unfolding fieldsOf historyFields
   fields-reads =
-      row-reads 1 _ _ (λ p. into-reads _ _ (λ a. rw p))
-      (row-reads 2 _ _ (λ p. into-reads _ _ (λ a. rw p))
-      (row-reads 3 _ _ (λ p. into-reads _ _ (λ a. rw p))
-      (row-reads 4 _ _ (λ p. into-reads _ _ (λ a. rw p))
-      (row-reads 5 _ _ (λ p. into-reads _ _ (λ a. rw p))
-      (row-reads 6 _ _ (λ p. into-reads _ _ (λ a. rw p))
-      (row-reads 7 _ _ (λ p. into-reads _ _ (λ a. rw p))
-      (row-reads 8 _ _ (λ p. into-reads _ _ (λ a. rw p))
-      (row-reads 9 _ _ (λ p. bind-reads _ _ (λ t. bind-reads _ _ (λ l. give-reads _ (rw p))))
-      (row-reads 10 _ _ (λ p. give-reads _ (rw p))
-      (row-reads 11 _ _ (λ p. give-reads _ (rw p))
-      (row-reads 12 _ _ (λ p. into-reads _ _ (λ a. rw p))
+      row-reads 1 _ _ (λ p. into-reads _ _ (λ a. sym p))
+      (row-reads 2 _ _ (λ p. into-reads _ _ (λ a. sym p))
+      (row-reads 3 _ _ (λ p. into-reads _ _ (λ a. sym p))
+      (row-reads 4 _ _ (λ p. into-reads _ _ (λ a. sym p))
+      (row-reads 5 _ _ (λ p. into-reads _ _ (λ a. sym p))
+      (row-reads 6 _ _ (λ p. into-reads _ _ (λ a. sym p))
+      (row-reads 7 _ _ (λ p. into-reads _ _ (λ a. sym p))
+      (row-reads 8 _ _ (λ p. into-reads _ _ (λ a. sym p))
+      (row-reads 9 _ _ (λ p. bind-reads _ _ (λ t. bind-reads _ _ (λ l. give-reads _ (sym p))))
+      (row-reads 10 _ _ (λ p. give-reads _ (sym p))
+      (row-reads 11 _ _ (λ p. give-reads _ (sym p))
+      (row-reads 12 _ _ (λ p. into-reads _ _ (λ a. sym p))
       (record { reads = λ s. tt }))))))))))))
 
   whole-kind : (o : Out CallValue) → KindAt o → Kind op (whole o)
@@ -76,3 +98,15 @@ pub call-kind : (b : Bytes) → Kind (getD b 0 0) (parseCall b)
 unfolding parseCall
 call-kind [] = refuses
 call-kind (op ∷ s) = whole-kind op (fieldsOf op s) (fields-reads op .reads s)
+
+-- its answers list alarms for operations 8 and 9, and for no other
+pub lists-op : (op : ℕ) → eqb (kindOf op) 8 ≡ listsRecords op
+lists-op op = go (eqb op 7) refl
+  where
+    other : (b : Bool) → eqb (cond b 8 0) 8 ≡ b
+    other true = refl
+    other false = refl
+
+    go : (b : Bool) → eqb op 7 ≡ b → eqb (cond b 7 (cond (listsRecords op) 8 0)) 8 ≡ listsRecords op
+    go true p = rw (eqb-true op 7 p)
+    go false p = other (listsRecords op)

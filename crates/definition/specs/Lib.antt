@@ -66,13 +66,10 @@ pub mod Legal
 pub mod Blank
 pub mod LegalLaws
 pub mod StepLaws
-pub mod PerformLaws
 pub mod KeepLaws
 pub mod ChangeLaws
 pub mod FieldLaws
 pub mod ReadLaws
-pub mod BlindLaws
-pub mod BlankLaws
 pub mod AnswerLaws
 pub mod TwinLaws
 pub mod TestLaws
@@ -91,5 +88,10 @@ pub mod TwinReadLaws
 pub mod KindLaws
 pub mod Claim
 pub mod ClaimLaws
+pub mod RelateLaws
+pub mod PairLaws
+pub mod LikeLaws
+pub mod LikeStepLaws
+pub mod TwinStepLaws
 pub mod TableSteps
 pub mod Marked
