@@ -5,7 +5,7 @@ use mathlib.Core.Option.{Option}
 use Rattle.octets.specs.Bytes.{Bytes}
 use Rattle.definition.specs.Limits.{textLimit, detailsLimit}
 use Rattle.definition.specs.Value.{RaiseValue}
-use Rattle.definition.specs.Alarm.{Alarm, late}
+use Rattle.definition.specs.Alarm.{Alarm, withSeverity, withText, withDetails, withState, withUpdated, late}
 use Rattle.definition.specs.Record.{alarmBytes}
 use Rattle.definition.specs.Steps as S
 use Rattle.definition.specs.Steps.{acknowledging, suppressing, updatedState, updatedBy}
@@ -39,19 +39,8 @@ pub record NewsWithin (call : Bytes) (n : News) : Type 0 where
 
 abbrev pub updatedWith : NewsValue → Alarm → Alarm
 updatedWith n a =
-    record {
-      id = a .id;
-      type = a .type;
-      severity = n .severity;
-      about = a .about;
-      text = n .text;
-      details = n .details;
-      state = updatedState (a .state);
-      raisedAt = a .raisedAt;
-      updatedAt = late (n .time) (a .raisedAt);
-      clearedAt = a .clearedAt;
-      key = a .key;
-    }
+    withSeverity (n .severity) (withText (n .text) (withDetails (n .details)
+    (withState (updatedState (a .state)) (withUpdated (late (n .time) (a .raisedAt)) a))))
 
 abbrev pub newsIn : RaiseValue → NewsValue
 newsIn c = record { time = c .head .time; severity = c .head .severity; text = c .text; details = c .details }

@@ -6,7 +6,7 @@ ghost use Rattle.definition.specs.Limits.{textLimit, detailsLimit};
 ghost use Rattle.definition.specs.Book.{payloadWidth};
 ghost use Rattle.definition.specs.Record.{lastActive, alarmBytes, readAlarm};
 ghost use Rattle.definition.specs.Steps.{updatedState, clearedBy, actionState, actedOn, expiredBy};
-ghost use Rattle.record.specs.Change.{withText, withDetails};
+ghost use Rattle.definition.specs.Alarm.{withText, withDetails};
 ghost use Rattle.model.specs.Meaning.{part, optPart, within, optWithin};
 ghost use Rattle.history.specs.Meaning.{IsAlarm};
 ghost use Rattle.changes.specs.Meaning.{actionOf, Turns, NewsWithin, newsOf, updatedWith};

@@ -1,7 +1,7 @@
 -- Laws of a record that is changed in place: a splice of one slot is the alarm with one field changed, and a legal field keeps it legal.
 use mathlib.Core.Path.{_≡_, refl, sym, ap, ap₂, _∙_}
 use mathlib.Core.List.{[], _∷_, _++_, append-assoc}
-use mathlib.Core.Option.{Option, none}
+use mathlib.Core.Option.{none}
 use Prim.Native.Nat.{ℕ, _+_, _-_, _≤_, _<_}
 use native.Mathlib.Nat.{add-assoc, sub-zero}
 use native.Mathlib.Omega.{arith}
@@ -10,7 +10,7 @@ use Rattle.octets.specs.Bytes.{Bytes, zeros, digits, pad, splice}
 use Rattle.octets.specs.NumberLaws.{length-zeros, zeros-append, length-digits, length-pad, pad-fits}
 use Rattle.octets.specs.SpliceLaws.{splice-two}
 use Rattle.definition.specs.Blank.{blank}
-use Rattle.definition.specs.Alarm.{Alarm}
+use Rattle.definition.specs.Alarm.{Alarm, withText, withDetails}
 use Rattle.definition.specs.Slot.{stringBytes, join}
 use Rattle.definition.specs.JoinLaws.{offset, splice-join}
 use Rattle.definition.specs.Record.{alarmBytes}
@@ -50,27 +50,10 @@ string-splices b x y z s at n h l ex ey ez =
 
 -- ---- "compared with both fields, their lengths and presence taken as zero"
 
--- another text, other details
-abbrev withTexts : Bytes → Option Bytes → Alarm → Alarm
-withTexts t d a =
-    record {
-      id = a .id;
-      type = a .type;
-      severity = a .severity;
-      about = a .about;
-      text = t;
-      details = d;
-      state = a .state;
-      raisedAt = a .raisedAt;
-      updatedAt = a .updatedAt;
-      clearedAt = a .clearedAt;
-      key = a .key;
-    }
-
 -- both slots zero are the bytes of the alarm without text and details
 pub mask-alarm : (a : Alarm) → splice (splice (alarmBytes a) 674 (zeros 258)) 932 (zeros 515) ≡ alarmBytes (blank a)
 mask-alarm a =
     let b = alarmBytes a in
-    let e : splice b 674 (zeros 258) ≡ alarmBytes (withTexts [] (a .details) a) =
-    slot-law 13 (λ a. withTexts [] (a .details) a) (stringBytes 256 []) b _ (omega arith) (length-string 256 []) (ap (splice b 674) (sym (empty-string 256))) (λ a. refl) a refl in
-    slot-law 14 (λ a. withTexts (a .text) none a) (zeros 515) (splice b 674 (zeros 258)) _ (omega arith) (length-zeros 515) refl (λ a. refl) (withTexts [] (a .details) a) e
+    let e : splice b 674 (zeros 258) ≡ alarmBytes (withText [] a) =
+    slot-law 13 (withText []) (stringBytes 256 []) b _ (omega arith) (length-string 256 []) (ap (splice b 674) (sym (empty-string 256))) (λ a. refl) a refl in
+    slot-law 14 (withDetails none) (zeros 515) (splice b 674 (zeros 258)) _ (omega arith) (length-zeros 515) refl (λ a. refl) (withText [] a) e

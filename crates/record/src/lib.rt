@@ -7,11 +7,11 @@ ghost use lib.Dec.{T};
 ghost use lib.ListN.{length, take, drop};
 ghost use Rattle.octets.specs.Bytes.{same, zeros, digits, splice};
 ghost use Rattle.definition.specs.Limits.{textLimit, detailsLimit};
-ghost use Rattle.definition.specs.Alarm.{sameMaybe, sameIdentity};
+ghost use Rattle.definition.specs.Alarm.{sameMaybe, sameIdentity, withSeverity, withState, withUpdated, withCleared, withText, withDetails};
 ghost use Rattle.definition.specs.Book.{payloadWidth};
 ghost use Rattle.definition.specs.Slot.{string, stringBytes, option};
 ghost use Rattle.definition.specs.Record.{anyBytes, lastState, readAlarm, soundAlarm};
-ghost use Rattle.record.specs.Change.{Becomes, withSeverity, withState, withUpdated, withCleared, withText, withDetails};
+ghost use Rattle.record.specs.Change.{Becomes};
 use model::Record;
 
 // Where the slots of an alarm start.

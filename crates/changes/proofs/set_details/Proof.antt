@@ -6,7 +6,7 @@ use Rattle.definition.specs.Limits.{detailsLimit}
 use Rattle.model.specs.declared.OptSpan.{OptSpan}
 use Rattle.model.specs.Meaning.{optPart}
 use Rattle.model.specs.CaseLaws.{option-case}
-use Rattle.record.specs.Change.{withDetails}
+use Rattle.definition.specs.Alarm.{withDetails}
 use Rattle.changes.specs.Meaning.{Turns}
 use Rattle.changes.proofs.set_details.Statement.{statement}
 use Rattle.changes.proofs.set_details.Tie as tie

@@ -2,7 +2,7 @@
 use mathlib.Core.Path.{refl}
 use mathlib.Core.Option.{none}
 use native.Mathlib.Omega.{arith}
-use Rattle.record.specs.Change.{withDetails}
+use Rattle.definition.specs.Alarm.{withDetails}
 use Rattle.record.proofs.Writes.{becomes}
 use Rattle.octets.specs.Bytes.{zeros}
 use Rattle.octets.specs.NumberLaws.{length-zeros}

@@ -3,7 +3,7 @@ use mathlib.Core.Path.{ap, refl}
 use mathlib.Core.List.{_∷_}
 use Prim.Native.Nat.{suc}
 use native.Mathlib.Omega.{arith}
-use Rattle.record.specs.Change.{withCleared}
+use Rattle.definition.specs.Alarm.{withCleared}
 use Rattle.record.proofs.Writes.{becomes}
 use Rattle.octets.specs.Bytes.{digits}
 use Rattle.octets.specs.NumberLaws.{length-digits}

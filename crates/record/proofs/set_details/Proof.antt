@@ -5,7 +5,7 @@ use mathlib.Core.Option.{some}
 use Prim.Native.Nat.{suc}
 use native.Mathlib.Omega.{arith}
 use Rattle.definition.specs.WriteLaws.{length-string}
-use Rattle.record.specs.Change.{withDetails}
+use Rattle.definition.specs.Alarm.{withDetails}
 use Rattle.record.proofs.Writes.{becomes}
 use Rattle.definition.specs.Slot.{stringBytes}
 use borrow.Author.Needs.{needs}

@@ -2,7 +2,7 @@
 use mathlib.Core.Path.{refl}
 use mathlib.Core.List.{[], _∷_}
 use native.Mathlib.Omega.{arith}
-use Rattle.record.specs.Change.{withSeverity}
+use Rattle.definition.specs.Alarm.{withSeverity}
 use Rattle.record.proofs.Writes.{becomes}
 use borrow.Author.Needs.{needs}
 use Rattle.record.proofs.set_severity.Statement.{statement}

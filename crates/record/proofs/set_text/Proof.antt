@@ -2,7 +2,7 @@
 use mathlib.Core.Path.{refl}
 use native.Mathlib.Omega.{arith}
 use Rattle.definition.specs.WriteLaws.{length-string}
-use Rattle.record.specs.Change.{withText}
+use Rattle.definition.specs.Alarm.{withText}
 use Rattle.record.proofs.Writes.{becomes}
 use Rattle.definition.specs.Slot.{stringBytes}
 use borrow.Author.Needs.{needs}

@@ -1,7 +1,7 @@
 -- The eight bytes are the field's slot.
 use mathlib.Core.Path.{refl}
 use native.Mathlib.Omega.{arith}
-use Rattle.record.specs.Change.{withUpdated}
+use Rattle.definition.specs.Alarm.{withUpdated}
 use Rattle.record.proofs.Writes.{becomes}
 use Rattle.octets.specs.Bytes.{digits}
 use Rattle.octets.specs.NumberLaws.{length-digits}
