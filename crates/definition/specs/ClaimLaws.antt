@@ -11,12 +11,12 @@ use Rattle.octets.specs.Bytes.{Bytes, Octets, splice}
 use Rattle.octets.specs.BoolLaws.{holds, true-holds}
 use Rattle.definition.specs.Value.{CallValue}
 use Rattle.definition.specs.Parse.{parseCall}
-use Rattle.definition.specs.Station.{Station, Outcome, done, stopped, fresh}
+use Rattle.definition.specs.Station.{Station, Outcome, done, stopped, fresh, _>>=_}
 use Rattle.definition.specs.Answer.{Answer, answerBytes}
 use Rattle.definition.specs.Book.{isLimit}
 use Rattle.definition.specs.BookReflectLaws.{limits-to}
 use Rattle.definition.specs.Opening.{Opened, opened, openOf}
-use Rattle.definition.specs.Perform.{perform}
+use Rattle.definition.specs.Perform.{inLength, perform}
 use Rattle.definition.specs.StepLaws.{lists}
 use Rattle.definition.specs.KindLaws.{kindOf, listing, Kind, kind, refuses, call-kind, lists-op}
 use Rattle.definition.specs.Fields.{LegalCall}
@@ -66,7 +66,7 @@ Good op (done x t) = LegalStation t × (lists x ≡ listsRecords op)
 Good op (stopped n) = Unit {0}
 
 good : (op n : ℕ) (s : Station) {c : CallValue} → Kind op c → LegalCall c → LegalStation s → Good op (perform c n s)
-unfolding perform
+unfolding perform inLength _>>=_
 good op n s {c} (kind k) h l = go (perform c n s) (perform-legal c n s h l)
   where
     go : (o : Outcome Answer) → Answered (listing c) s o → Good op o

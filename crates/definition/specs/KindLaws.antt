@@ -7,28 +7,12 @@ use lib.Dec.{eqb}
 use lib.ListN.{getD}
 use borrow.Author.Tests.{eqb-true}
 use Rattle.octets.specs.Bytes.{Bytes}
-use Rattle.definition.specs.Value.{CallValue}
+use Rattle.definition.specs.Value.{CallValue, opOf}
 use Rattle.definition.specs.Reader.{Out, got, bad, Reader, next, _>>=_, give, into}
 use Rattle.definition.specs.Parse.{historyFields, fieldsOf, whole, parseCall}
 use Rattle.definition.specs.Mask.{listsRecords}
 
--- the operation; 0 where there is none
-abbrev pub opOf : CallValue → ℕ
-opOf (CallValue.raise c) = 1
-opOf (CallValue.clear c) = 2
-opOf (CallValue.acknowledge p) = 3
-opOf (CallValue.suppress p) = 4
-opOf (CallValue.acknowledgePolicy p) = 5
-opOf (CallValue.suppressPolicy p) = 6
-opOf (CallValue.expire t) = 7
-opOf (CallValue.active v) = 8
-opOf (CallValue.history t l) = 9
-opOf CallValue.counts = 10
-opOf CallValue.summary = 11
-opOf (CallValue.takeAudit k) = 12
-opOf (CallValue.refused k) = 0
-
--- the kind of its answers
+-- the kind of an operation's answers
 abbrev pub kindOf : ℕ → ℕ
 kindOf op = cond (eqb op 7) 7 (cond (listsRecords op) 8 0)
 

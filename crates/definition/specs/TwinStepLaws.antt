@@ -9,7 +9,7 @@ use lib.Dec.{leb, eqb, ltb}
 use lib.ListN.{length, take}
 use borrow.Author.Tests.{leb-false}
 use Rattle.octets.specs.Bytes.{Bytes, same}
-use Rattle.definition.specs.Value.{RaiseValue, PolicyValue, CallValue}
+use Rattle.definition.specs.Value.{RaiseValue, PolicyValue, CallValue, opOf}
 use Rattle.definition.specs.Chain.{Entry, entry, contents, those}
 use Rattle.definition.specs.ChainLaws.{map-map, those-map}
 use Rattle.definition.specs.Alarm.{Alarm, Event, hasId, hasSeverity, inScope, isCritical}
@@ -18,12 +18,12 @@ use Rattle.definition.specs.Answer.{Answer, Alarms, Counts, Summary, Eve
 use Rattle.definition.specs.AnswerLaws.{size-blank}
 use Rattle.definition.specs.Steps.{Action, acknowledging, suppressing, eventStored, eventLost, attempt, eventOf, deny, allow, needsOverride, policyAt, policy}
 use Rattle.definition.specs.Reports.{activeList, historyList, rating, tally, counts, severityOf, worst, worstImpact, summary, freeOne, takeAudit}
-use Rattle.definition.specs.Perform.{inLength, perform}
+use Rattle.definition.specs.Perform.{stepFor, inLength, asksRecord, inRoom, perform}
 use Rattle.definition.specs.Fields.{Time, Each, LegalEvent, LegalPolicy, LegalCall}
 use Rattle.definition.specs.ChangeLaws.{event-legal}
 use Rattle.definition.specs.KeepLaws.{each-last}
 use Rattle.definition.specs.LegalLaws.{addAudit-legal, freeOldestAudit-legal, countSuccess-legal, countFailure-legal}
-use Rattle.definition.specs.KindLaws.{opOf, kindOf}
+use Rattle.definition.specs.KindLaws.{kindOf}
 use Rattle.definition.specs.Blank.{blank, blankAnswer}
 use Rattle.definition.specs.Twins.{AtEach}
 use Rattle.definition.specs.PairLaws.{length-each}
@@ -179,28 +179,30 @@ unfolding inLength
 inLength-twin {i} {n} k x = bind-related x (λ a a′. known-related (λ s t p. p .says) (λ e.
     cond-both (ap (ltb k) (size-twin a a′ e)) (refuse-related (omega arith)) (give-related (λ s t p. p))))
 
+inRoom-twin : {i n : ℕ} (op k : ℕ) {m m′ : Step Answer} → Related (Twin n) (Told twin i n) m m′ → Related (Twin n) (Told twin i n) (inRoom op k m) (inRoom op k m′)
+inRoom-twin op k x = cond-related (asksRecord op) (inRecord-like twin-lasts k x) (inLength-twin k x)
+
 -- the same call, or a raise in other words
 pub data TwinCalls : CallValue → CallValue → Type 0 where
   alike : (c : CallValue) → TwinCalls c c
   reworded : (c : RaiseValue) (t : Bytes) (d : Option Bytes) → TwinCalls (CallValue.raise c) (CallValue.raise (worded t d c))
 
-same-twin : {n : ℕ} (c : CallValue) (k : ℕ) → LegalCall c → Related (Twin n) (Told twin (kindOf (opOf c)) n) (perform c k) (perform c k)
-unfolding perform
-same-twin (CallValue.raise c) k h = inRecord-like twin-lasts k (raise-like twin-lasts {c = c} {w = c .text} {d = c .details} (h, h))
-same-twin (CallValue.clear c) k h = inRecord-like twin-lasts k (clear-like twin-lasts c h)
-same-twin (CallValue.acknowledge p) k h = inRecord-like twin-lasts k (plain-like twin-lasts acknowledging p h)
-same-twin (CallValue.suppress p) k h = inRecord-like twin-lasts k (plain-like twin-lasts suppressing p h)
-same-twin (CallValue.acknowledgePolicy p) k h = inRecord-like twin-lasts k (policy-twin acknowledging p h)
-same-twin (CallValue.suppressPolicy p) k h = inRecord-like twin-lasts k (policy-twin suppressing p h)
-same-twin (CallValue.expire t) k h = inRecord-like twin-lasts k (expire-like twin-lasts t h)
-same-twin (CallValue.active v) k h = inLength-twin k (activeList-twin v)
-same-twin (CallValue.history t l) k h = inLength-twin k (historyList-twin t l)
-same-twin CallValue.counts k h = inLength-twin k counts-twin
-same-twin CallValue.summary k h = inRecord-like twin-lasts k summary-twin
-same-twin (CallValue.takeAudit i) k h = inLength-twin k (takeAudit-twin i)
-same-twin (CallValue.refused i) k h = refuse-related (omega (arith, h))
+step-twin : {n : ℕ} (c : CallValue) → LegalCall c → Related (Twin n) (Told twin (kindOf (opOf c)) n) (stepFor c) (stepFor c)
+step-twin (CallValue.raise c) h = raise-like twin-lasts {c = c} {w = c .text} {d = c .details} (h, h)
+step-twin (CallValue.clear c) h = clear-like twin-lasts c h
+step-twin (CallValue.acknowledge p) h = plain-like twin-lasts acknowledging p h
+step-twin (CallValue.suppress p) h = plain-like twin-lasts suppressing p h
+step-twin (CallValue.acknowledgePolicy p) h = policy-twin acknowledging p h
+step-twin (CallValue.suppressPolicy p) h = policy-twin suppressing p h
+step-twin (CallValue.expire t) h = expire-like twin-lasts t h
+step-twin (CallValue.active v) h = activeList-twin v
+step-twin (CallValue.history t l) h = historyList-twin t l
+step-twin CallValue.counts h = counts-twin
+step-twin CallValue.summary h = summary-twin
+step-twin (CallValue.takeAudit i) h = takeAudit-twin i
+step-twin (CallValue.refused i) h = refuse-related (omega (arith, h))
 
 pub perform-twin : {n : ℕ} {c c′ : CallValue} (k : ℕ) → TwinCalls c c′ → LegalCall c → LegalCall c′ → Related (Twin n) (Told twin (kindOf (opOf c)) n) (perform c k) (perform c′ k)
 unfolding perform
-perform-twin k (alike c) h h′ = same-twin c k h
-perform-twin k (reworded c t d) h h′ = inRecord-like twin-lasts k (raise-like twin-lasts {c = c} {w = t} {d = d} (h, h′))
+perform-twin k (alike c) h h′ = inRoom-twin (opOf c) k (step-twin c h)
+perform-twin k (reworded c t d) h h′ = inRoom-twin 1 k (raise-like twin-lasts {c = c} {w = t} {d = d} (h, h′))

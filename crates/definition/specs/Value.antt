@@ -99,3 +99,19 @@ pub data CallValue : Type 0 where
   summary : CallValue
   takeAudit : ℕ → CallValue
   refused : ℕ → CallValue
+
+-- the operation's number; 0 for a call that the parser refused
+abbrev pub opOf : CallValue → ℕ
+opOf (CallValue.raise c) = 1
+opOf (CallValue.clear c) = 2
+opOf (CallValue.acknowledge p) = 3
+opOf (CallValue.suppress p) = 4
+opOf (CallValue.acknowledgePolicy p) = 5
+opOf (CallValue.suppressPolicy p) = 6
+opOf (CallValue.expire t) = 7
+opOf (CallValue.active v) = 8
+opOf (CallValue.history t l) = 9
+opOf CallValue.counts = 10
+opOf CallValue.summary = 11
+opOf (CallValue.takeAudit k) = 12
+opOf (CallValue.refused k) = 0

@@ -9,6 +9,7 @@ use Rattle.octets.specs.Bytes.{Bytes}
 use Rattle.octets.specs.SpliceLaws.{splice-none}
 use Rattle.definition.specs.Value.{CallValue}
 use Rattle.definition.specs.Parse.{parseCall}
+use Rattle.definition.specs.Station.{_>>=_}
 use Rattle.definition.specs.Reports.{activeList, historyList, counts, takeAudit}
 use Rattle.definition.specs.Perform.{inLength, perform}
 use Rattle.definition.specs.Sound.{station, sound}
@@ -57,7 +58,7 @@ module _ (y : Reply) (n : ℕ) (b b′ a a′ : Bytes) where
 
 -- what the parser refused stays refused
 pub stays-refused : (k : ℕ) (n : ℕ) (b a : Bytes) → Refuses (perform (CallValue.refused k) n) b b a a k
-unfolding perform
+unfolding perform inLength _>>=_
 stays-refused k n b a = record { stops = refl; register = refl; answer = refl }
 
 gives : (y : Reply) (c : CallValue) (n : ℕ) (b b′ a a′ : Bytes) → Replies y (perform c n) b b′ a a′ → Gives (replyOf b (perform c n (station b))) a (numberIn y) (lengthIn y) a′ b′
