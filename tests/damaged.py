@@ -100,6 +100,9 @@ DAMAGES = {
         ("a declared type", LIMITS, r"\Z", "use Rattle.model.specs.declared.Span.{Span}\n"),
         ("a declared type in a cited file", SPECS, r"\Z", "use Rattle.octets.specs.declared.Cursor.{Cursor}\n"),
     ],
+    (repository, "definitions cite no law"): [
+        ("a law that is cited", LIMITS, r"\Z", "use Rattle.definition.specs.Laws.Text.Cause.{cause-length}\n"),
+    ],
     (repository, "README lists the crates"): [
         ("a row left out", "README.md", r"^\| `octets` .*\n", ""),
     ],

@@ -148,8 +148,16 @@ def definition(root):
         seen.add(path)
         for found in re.finditer(r"\S*\bdeclared\.\S*", files[path]):
             yield f"{path}:{line(files[path], found.start())}: {found.group(0)}"
-        for crate, file in re.findall(r"\buse Rattle·(\w+)(?:·specs)?\.specs\.(\w+)", files[path]):
-            todo.append(f"crates/{crate}/specs/{file}.antt")
+        for crate, file in re.findall(r"\buse Rattle·(\w+)(?:·specs)?\.specs\.(\w+(?:\.\w+)*)", files[path]):
+            todo.append(f"crates/{crate}/specs/{file.replace('.', '/')}.antt")
+
+
+def laws(root):
+    """What states document 01 stands beside Laws and cites nothing of it."""
+    for path, text in proofs(root):
+        if re.fullmatch(r"crates/definition/specs/\w+\.antt", path):
+            for found in re.finditer(r"\buse Rattle.definition\S*\.Laws\.\S*", text):
+                yield f"{path}:{line(text, found.start())}: {found.group(0)}"
 
 
 def readme(root):
@@ -275,6 +283,7 @@ CHECKS = {
     "no hole and no axiom": holes,
     "symbols are the library's": symbols,
     "the definition has no code": definition,
+    "definitions cite no law": laws,
     "README lists the crates": readme,
     "claims are there, one for each public function": claims,
     "wrong answers fit the code": answers,

@@ -7,7 +7,7 @@ use lib.ListN.{length}
 use Rattle.octets.specs.Bytes.{Bytes, splice}
 use Rattle.definition.specs.Slot.{join, total}
 use Rattle.octets.specs.SpliceLaws.{splice-whole}
-use Rattle.definition.specs.JoinLaws.{Fits, length-join, laid, laid-join}
+use Rattle.definition.specs.Laws.Record.Join.{Fits, length-join, laid, laid-join}
 
 -- from a place on, slots of the widths were written into b; c is what then stands there
 pub data Wrote : ℕ → List ℕ → List Bytes → Bytes → Bytes → Type 0 where

@@ -9,7 +9,7 @@ use lib.Seq.{drop-cons, drop-drop, take-add, take-suc, take-take, drop-append-le
 use Rattle.octets.specs.Bytes.{Bytes}
 use Rattle.octets.specs.PartLaws.{part-rest}
 use Rattle.definition.specs.White.{space, startFrom, endFrom}
-use Rattle.definition.specs.WhiteLaws.{space-le, start-space, keepAll, keep-nil, keep-append, end-space, end-plain}
+use Rattle.definition.specs.Laws.Text.White.{space-le, start-space, keepAll, keep-nil, keep-append, end-space, end-plain}
 
 -- s up to `end`, and what stays of the white space from there to i and of the rest
 abbrev pub upTo : Bytes → ℕ → ℕ → Bytes

@@ -11,23 +11,23 @@ use lib.ListN.{length, drop}
 use Rattle.octets.specs.Bytes.{Bytes, at32}
 use Rattle.octets.specs.Put.{Put}
 use Rattle.definition.specs.Chain.{Entry, onContent, entry, those, without, lastOf, times}
-use Rattle.definition.specs.ChainLaws.{without-map}
+use Rattle.definition.specs.Laws.Book.Contents.{without-map}
 use Rattle.definition.specs.Alarm.{Alarm, isDue}
 use Rattle.definition.specs.Record.{lastState, alarmBytes, readAlarm}
 use Rattle.definition.specs.Book.{Record, recordOf, readBook}
-use Rattle.definition.specs.BookSplitLaws.{lastFrom, last-from-zero}
-use Rattle.definition.specs.BookSoundLaws.{length-at}
-use Rattle.definition.specs.Fields.{Time}
-use Rattle.definition.specs.ChangeLaws.{expired-legal}
+use Rattle.definition.specs.Laws.Book.Split.{lastFrom, last-from-zero}
+use Rattle.definition.specs.Laws.Book.Sound.{length-at}
+use Rattle.definition.specs.Laws.Steps.Fields.{Time}
+use Rattle.definition.specs.Laws.Steps.Change.{expired-legal}
 use Rattle.definition.specs.Station.{Step, give, forEach}
-use Rattle.definition.specs.StepLaws.{retire-legal}
+use Rattle.definition.specs.Laws.Steps.LegalSteps.{retire-legal}
 use Rattle.definition.specs.Steps.{expiredBy, retire, isDueEntry, retireDue, expire}
 use Rattle.definition.specs.Answer.{Expired, answerBytes}
 use Rattle.definition.specs.Sound.{bookOf, stationOf, station, sound}
-use Rattle.definition.specs.SoundLaws.{sound-holds}
-use Rattle.definition.specs.TimesLaws.{times-hit, times-miss}
-use Rattle.definition.specs.Moves.{prevOf, CanRelease}
-use Rattle.definition.specs.Does.{Does, Answers}
+use Rattle.definition.specs.Laws.Steps.Sound.{sound-holds}
+use Rattle.definition.specs.Laws.Book.Times.{times-hit, times-miss}
+use Rattle.definition.specs.Laws.Book.Moves.{prevOf, CanRelease}
+use Rattle.definition.specs.Laws.Steps.Does.{Does, Answers}
 use Rattle.history.specs.Meaning.{IsAlarm, Newest, OnActive, Files}
 use Rattle.history.specs.DoesLaws.{does-then, does-give, does-look, does-end}
 use Rattle.history.specs.Walk.{alarmAt}

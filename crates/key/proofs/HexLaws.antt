@@ -9,7 +9,7 @@ use lib.Seq.{take-suc, length-take-le}
 use Rattle.octets.specs.Bytes.{Bytes, splice}
 use Rattle.octets.specs.SpliceLaws.{set-splice, splice-two}
 use Rattle.definition.specs.Key.{hexDigit, hex}
-use Rattle.definition.specs.KeyLaws.{length-hex, hex-append}
+use Rattle.definition.specs.Laws.Text.Key.{length-hex, hex-append}
 
 two-sets : (b : Bytes) (k x y : ℕ) → k + 1 < length b → set (set b k x) (k + 1) y ≡ splice b k (x ∷ y ∷ [])
 two-sets b k x y h =

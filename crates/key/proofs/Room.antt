@@ -10,7 +10,7 @@ use Rattle.octets.specs.RangeLaws.{on-range}
 use Rattle.definition.specs.Limits.{shortLimit, causeLimit, regionLimit}
 use Rattle.definition.specs.Cause.{names, other}
 use Rattle.definition.specs.Key.{string, optional, strings, decimal, parts, fedObject}
-use Rattle.definition.specs.KeyLaws.{length-string, length-decimal}
+use Rattle.definition.specs.Laws.Text.Key.{length-string, length-decimal}
 use Rattle.model.specs.declared.AffectedObject.{AffectedObject}
 use Rattle.model.specs.declared.AffectedObject.the-variants as O
 use Rattle.model.specs.declared.CauseSpan.{CauseSpan}

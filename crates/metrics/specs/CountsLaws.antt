@@ -8,13 +8,13 @@ use lib.ListN.{length, replicate, length-replicate}
 use Rattle.octets.specs.Bytes.{Bytes, zeros}
 use Rattle.octets.specs.Put.{Put}
 use Rattle.octets.specs.PutLaws.{put-as}
-use Rattle.definition.specs.ChainLaws.{length-map}
+use Rattle.definition.specs.Laws.Book.Contents.{length-map}
 use Rattle.definition.specs.Answer.{Answer, Counts, headOf, headBytes, countEntries}
 use Rattle.definition.specs.Reports.{Rating, rating, countOf, firstsFrom, tally, counts}
 use Rattle.definition.specs.Perform.{inLength}
 use Rattle.definition.specs.Sound.{station, sound}
-use Rattle.definition.specs.AnswerLaws.{length-answer}
-use Rattle.definition.specs.Does.{Does, Answers, Refuses}
+use Rattle.definition.specs.Laws.Steps.Answer.{length-answer}
+use Rattle.definition.specs.Laws.Steps.Does.{Does, Answers, Refuses}
 use Rattle.history.specs.DoesLaws.{does-look}
 use Rattle.history.specs.WalkLaws.{reached-length}
 use Rattle.answers.specs.AnswerLaws.{listHead, put-list}

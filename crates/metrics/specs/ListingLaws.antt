@@ -11,7 +11,7 @@ use Rattle.octets.specs.Bytes.{Bytes, at32, be32, value}
 use Rattle.octets.specs.NumberLaws.{length-be32}
 use Rattle.octets.specs.Put.{Put}
 use Rattle.definition.specs.Key.{string}
-use Rattle.definition.specs.KeyLaws.{length-string}
+use Rattle.definition.specs.Laws.Text.Key.{length-string}
 use Rattle.definition.specs.Slot.{cut}
 use Rattle.definition.specs.Record.{readAlarm}
 use Rattle.definition.specs.Answer.{Count, countEntries}

@@ -3,7 +3,7 @@ ghost use lib.Dec.{T};
 ghost use lib.ListN.{length};
 ghost use Rattle.definition.specs.Limits.{shortLimit};
 ghost use Rattle.definition.specs.Value.{CallValue};
-ghost use Rattle.definition.specs.Fields.{LegalRaise};
+ghost use Rattle.definition.specs.Laws.Steps.Fields.{LegalRaise};
 ghost use Rattle.definition.specs.Perform.{perform};
 ghost use Rattle.definition.specs.Sound.{sound};
 ghost use Rattle.model.specs.Meaning.{within};

@@ -4,7 +4,7 @@ use mathlib.Core.Option.{none}
 use lib.ListN.{length}
 use Rattle.octets.specs.Bytes.{Bytes}
 use Rattle.definition.specs.Value.{RaiseValue}
-use Rattle.definition.specs.Fields.{LegalRaise}
+use Rattle.definition.specs.Laws.Steps.Fields.{LegalRaise}
 use Rattle.definition.specs.Station.{Step}
 use Rattle.definition.specs.Answer.{Answer, Updated}
 use Rattle.definition.specs.Steps.{change, updatedBy, raiseAt}

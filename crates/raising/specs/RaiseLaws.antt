@@ -14,15 +14,15 @@ use Rattle.definition.specs.Value.{RaiseValue}
 use Rattle.definition.specs.Key.{keyOf}
 use Rattle.definition.specs.Chain.{Entry, present, first}
 use Rattle.definition.specs.Alarm.{Alarm, hasKey, hasId}
-use Rattle.definition.specs.Fields.{LegalRaise}
-use Rattle.definition.specs.ChangeLaws.{updated-legal, new-legal}
+use Rattle.definition.specs.Laws.Steps.Fields.{LegalRaise}
+use Rattle.definition.specs.Laws.Steps.Change.{updated-legal, new-legal}
 use Rattle.definition.specs.Record.{lastActive, alarmBytes, readAlarm}
 use Rattle.definition.specs.Book.{recordOf}
 use Rattle.definition.specs.Station.{_>>=_, refuse}
 use Rattle.definition.specs.Steps.{change, updatedBy, newAlarm, store, storeNew, limitExceeded, raiseAt, raise}
 use Rattle.definition.specs.Answer.{Raised, Updated, ActiveLimitExceeded, head, headBytes, answerBytes}
 use Rattle.definition.specs.Sound.{station, sound}
-use Rattle.definition.specs.Does.{Does, Answers, Refuses}
+use Rattle.definition.specs.Laws.Steps.Does.{Does, Answers, Refuses}
 use Rattle.history.specs.Meaning.{IsAlarm, OnActive, Changes}
 use Rattle.history.specs.Walk.{alarmAt}
 use Rattle.history.specs.DoesLaws.{does-then, does-look, does-yes, does-no}

@@ -7,7 +7,7 @@ ghost use Rattle.definition.specs.Alarm.{hasId};
 ghost use Rattle.definition.specs.Limits.{shortLimit};
 ghost use Rattle.definition.specs.Sound.{station, sound};
 ghost use Rattle.definition.specs.Steps as S;
-ghost use Rattle.definition.specs.Does.{Answers};
+ghost use Rattle.definition.specs.Laws.Steps.Does.{Answers};
 ghost use Rattle.model.specs.Meaning.{part, within};
 ghost use Rattle.raise.specs.Meaning.{raiseValue};
 ghost use Rattle.history.specs.Meaning.{OnActive, Room};

@@ -9,7 +9,7 @@ ghost use mathlib.Core.Bool.{_&&_};
 ghost use Prim.Native.Nat.{_≤_};
 ghost use lib.ListN.{length, take, drop};
 ghost use Rattle.octets.specs.Bytes.{blank};
-ghost use Rattle.definition.specs.Utf8Laws.{plain};
+ghost use Rattle.definition.specs.Laws.Text.Utf8.{plain};
 ghost use Rattle.record_check.specs.Ruler.{rulerBytes, under};
 
 // Whether `and` with the ruler leaves nothing of the room.

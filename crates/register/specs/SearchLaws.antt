@@ -13,11 +13,11 @@ use Rattle.definition.specs.Chain.{Entry, first, times}
 use Rattle.definition.specs.Slot.{cut}
 use Rattle.definition.specs.Record.{readAlarm}
 use Rattle.definition.specs.Book.{Record, recordOf, readBook}
-use Rattle.definition.specs.BookLegalLaws.{fair}
-use Rattle.definition.specs.BookWithLaws.{total-on}
-use Rattle.definition.specs.TimesLaws.{times-cons, times-hit, times-miss}
-use Rattle.definition.specs.Moves.{prevOf, CanRelease}
-use Rattle.definition.specs.BookLegal.{Sound, chain}
+use Rattle.definition.specs.Laws.Book.LegalChange.{fair}
+use Rattle.definition.specs.Laws.Book.With.{total-on}
+use Rattle.definition.specs.Laws.Book.Times.{times-cons, times-hit, times-miss}
+use Rattle.definition.specs.Laws.Book.Moves.{prevOf, CanRelease}
+use Rattle.definition.specs.Laws.Book.Legal.{Sound, chain}
 use Rattle.register.specs.declared.Found.{Found}
 use Rattle.register.specs.declared.Found.the-variants.{At, Nowhere}
 use Rattle.register.specs.Search.{firstIn, holdsKey, holdsId}

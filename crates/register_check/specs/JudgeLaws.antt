@@ -10,15 +10,15 @@ use Rattle.octets.specs.BlankLaws.{blank→zeros, blank-zeros}
 use Rattle.octets.specs.PartLaws.{part-length}
 use Rattle.octets.specs.BoolLaws.{both, both-left, both-right, holds, fails, true-holds}
 use Rattle.definition.specs.Book.{capacity, every, soundBook, readBook}
-use Rattle.definition.specs.BookLegal as L
-use Rattle.definition.specs.BookSoundnessLaws.{chain-read, check-sound}
-use Rattle.definition.specs.BookCompleteLaws.{sound-checked}
-use Rattle.definition.specs.BookReflectLaws.{zeroed-to, zeroed-from, sound-to, sound-from}
-use Rattle.definition.specs.BookJudgeLaws.{chained-decides}
+use Rattle.definition.specs.Laws.Book.Legal as L
+use Rattle.definition.specs.Laws.Book.Soundness.{chain-read, check-sound}
+use Rattle.definition.specs.Laws.Book.Complete.{sound-checked}
+use Rattle.definition.specs.Laws.Book.Reflect.{zeroed-to, zeroed-from, sound-to, sound-from}
+use Rattle.definition.specs.Laws.Book.Judge.{chained-decides}
 use Rattle.definition.specs.Sound.{activeSound, historySound, auditSound, soundRecords, sound}
 use Rattle.definition.specs.Chain.{lastOf}
-use Rattle.definition.specs.BookCheck.{Leads, Chained, Checked, Decides, Apart}
-use Rattle.definition.specs.BookLegal.{chain}
+use Rattle.definition.specs.Laws.Book.Check.{Leads, Chained, Checked, Decides, Apart}
+use Rattle.definition.specs.Laws.Book.Legal.{chain}
 use Rattle.register_check.specs.Meaning.{EndsAt, Chain, Headed, Heads, passes, number}
 use Rattle.register_check.specs.declared.Kind.{Kind}
 use Rattle.register_check.specs.declared.Kind.the-variants.{Active, History, Audit, Free}

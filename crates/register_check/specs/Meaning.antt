@@ -8,8 +8,8 @@ use Rattle.definition.specs.Record.{lastActive, lastState, soundAlarm, soundEve
 use Rattle.definition.specs.Book.{Record, payloadWidth, capacity, walk, every, readBook}
 use Rattle.definition.specs.Sound.{sound}
 use Rattle.definition.specs.Chain.{lastOf}
-use Rattle.definition.specs.BookCheck.{Leads, Numbers}
-use Rattle.definition.specs.BookLegal.{chain}
+use Rattle.definition.specs.Laws.Book.Check.{Leads, Numbers}
+use Rattle.definition.specs.Laws.Book.Legal.{chain}
 use Rattle.register_check.specs.declared.Checked.{Checked}
 use Rattle.register_check.specs.declared.Checked.the-variants.{Sound, Unsound}
 use Rattle.register_check.specs.declared.Lasts.{Lasts}

@@ -14,13 +14,13 @@ use Rattle.definition.specs.Chain.{entry, first}
 use Rattle.definition.specs.Alarm.{Alarm, hasId}
 use Rattle.definition.specs.Record.{lastActive, alarmBytes, readAlarm}
 use Rattle.definition.specs.Book.{recordOf}
-use Rattle.definition.specs.Fields.{Time}
-use Rattle.definition.specs.ChangeLaws.{acted-legal}
+use Rattle.definition.specs.Laws.Steps.Fields.{Time}
+use Rattle.definition.specs.Laws.Steps.Change.{acted-legal}
 use Rattle.definition.specs.Station.{Step}
 use Rattle.definition.specs.Steps.{Action, acknowledging, suppressing, actionAnswer, notAuthorized, actedOn, act, plainAt, plain, change}
 use Rattle.definition.specs.Answer.{Answer, Unauthorized, NotFound, head, headOf, headBytes, body, alarmRecord, answerBytes}
 use Rattle.definition.specs.Sound.{station, sound}
-use Rattle.definition.specs.Does.{Does, Answers}
+use Rattle.definition.specs.Laws.Steps.Does.{Does, Answers}
 use Rattle.history.specs.Meaning.{IsAlarm, OnActive, Changes}
 use Rattle.history.specs.Walk.{alarmAt}
 use Rattle.history.specs.DoesLaws.{does-then, does-give, does-look, does-yes, does-no}

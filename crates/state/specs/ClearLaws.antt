@@ -15,12 +15,12 @@ use Rattle.definition.specs.Alarm.{Alarm, hasKey}
 use Rattle.definition.specs.Record.{lastActive, lastState, alarmBytes, readAlarm}
 use Rattle.definition.specs.Book.{recordOf}
 use Rattle.definition.specs.Limits.{shortLimit}
-use Rattle.definition.specs.Fields.{Time}
-use Rattle.definition.specs.ChangeLaws.{cleared-legal}
+use Rattle.definition.specs.Laws.Steps.Fields.{Time}
+use Rattle.definition.specs.Laws.Steps.Change.{cleared-legal}
 use Rattle.definition.specs.Steps.{clearedBy, clearAt, clear, retire}
 use Rattle.definition.specs.Answer.{Cleared, ClearWithoutActive, head, headBytes, answerBytes}
 use Rattle.definition.specs.Sound.{station, sound}
-use Rattle.definition.specs.Does.{Does, Answers}
+use Rattle.definition.specs.Laws.Steps.Does.{Does, Answers}
 use Rattle.history.specs.Meaning.{IsAlarm, OnActive, Files}
 use Rattle.history.specs.Walk.{alarmAt}
 use Rattle.history.specs.DoesLaws.{does-then, does-give, does-look}

@@ -11,15 +11,15 @@ use Rattle.definition.specs.Parse.{parseCall}
 use Rattle.definition.specs.Station.{Outcome, done, stopped}
 use Rattle.definition.specs.Answer.{Answer}
 use Rattle.definition.specs.Perform.{perform}
-use Rattle.definition.specs.FieldLaws.{Answered, perform-legal}
-use Rattle.definition.specs.ReadLaws.{call-legal}
+use Rattle.definition.specs.Laws.Twins.Kept.{Answered, perform-legal}
+use Rattle.definition.specs.Laws.Text.Parse.{call-legal}
 use Rattle.definition.specs.Sound.{station, sound}
-use Rattle.definition.specs.SoundLaws.{sound-holds, legal-sound}
+use Rattle.definition.specs.Laws.Steps.Sound.{sound-holds, legal-sound}
 use Rattle.definition.specs.Opening.{opened, openOf}
 use Rattle.definition.specs.Lists.{replyOf, stepOf, run}
 use Rattle.definition.specs.Twins.{AtEach, TwinLists}
 use Rattle.definition.specs.Claim.{Fresh, Made, Trace, asked, AsReplied, Alike, AllOctets}
-use Rattle.definition.specs.ClaimLaws.{claim}
+use Rattle.definition.specs.Laws.Twins.Claim.{claim}
 
 -- ---- what the contracts say
 

@@ -2,7 +2,7 @@
 ghost use mathlib.Core.Path.{_≡_};
 ghost use lib.ListN.{length as lengthOf};
 ghost use Rattle.octets.specs.Bytes.{splice};
-ghost use Rattle.definition.specs.Fields.{LegalCall};
+ghost use Rattle.definition.specs.Laws.Steps.Fields.{LegalCall};
 ghost use Rattle.definition.specs.Perform.{perform as performed};
 ghost use Rattle.definition.specs.Opening.{openOf};
 ghost use Rattle.definition.specs.Lists.{stepOf};

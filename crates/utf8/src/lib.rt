@@ -3,7 +3,7 @@ ghost use mathlib.Core.Path.{_≡_};
 ghost use mathlib.Core.List.{[]};
 ghost use Prim.Native.Nat.{_<_, _≤_};
 ghost use Rattle.definition.specs.Utf8.{_–_, utf8};
-ghost use Rattle.definition.specs.Utf8Laws.{plain};
+ghost use Rattle.definition.specs.Laws.Text.Utf8.{plain};
 ghost use Rattle.utf8.specs.Meaning.{toCome, ranges, after};
 
 // What must still come of a character: `more` bytes, the next of them from lo to hi. Where lo is above hi, none can come.

@@ -1,6 +1,6 @@
 -- A name is stored as it is.
 use mathlib.Core.Path.{sym, _∙_}
-use Rattle.definition.specs.CauseLaws.{stored-name}
+use Rattle.definition.specs.Laws.Text.Cause.{stored-name}
 use borrow.Author.Needs.{needs}
 use Rattle.cause.proofs.is_stored.Statement.{statement}
 use Rattle.cause.proofs.is_stored.Tie as tie

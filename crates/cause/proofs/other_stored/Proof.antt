@@ -4,7 +4,7 @@ use borrow.Author.Tests.{not-true, not-false}
 use Rattle.octets.specs.PartLaws.{part-rest}
 use Rattle.octets.specs.SameLaws.{begins-short}
 use Rattle.definition.specs.Cause.{other, dotted}
-use Rattle.definition.specs.CauseLaws.{not-stored, other-stored}
+use Rattle.definition.specs.Laws.Text.Cause.{not-stored, other-stored}
 use borrow.Author.Needs.{needs}
 use Rattle.cause.proofs.other_stored.Statement.{statement}
 use Rattle.cause.proofs.other_stored.Tie as tie

@@ -1,5 +1,5 @@
 -- `part_of` meets its contract: from the span's place to its length behind it.
-use Rattle.definition.specs.SlotLaws.{part-lent}
+use Rattle.definition.specs.Laws.Record.Slot.{part-lent}
 use borrow.Author.Needs.{needs}
 use Rattle.fields.proofs.part_of.Statement.{statement}
 use Rattle.fields.proofs.part_of.Tie as tie

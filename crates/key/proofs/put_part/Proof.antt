@@ -2,7 +2,7 @@
 use mathlib.Core.Path.{ap}
 use Rattle.definition.specs.Key.{string}
 use Rattle.octets.specs.PutLaws.{put-as}
-use Rattle.definition.specs.SlotLaws.{part-lent}
+use Rattle.definition.specs.Laws.Record.Slot.{part-lent}
 use borrow.Author.Needs.{needs}
 use Rattle.key.proofs.put_part.Statement.{statement}
 use Rattle.key.proofs.put_part.Tie as tie

@@ -3,7 +3,7 @@ use mathlib.Core.Path.{ap, _∙_}
 use lib.ListN.{drop}
 use Rattle.octets.specs.PartLaws.{part-rest}
 use Rattle.definition.specs.Key.{string}
-use Rattle.definition.specs.KeyLaws.{five-decimal, fiveDigits}
+use Rattle.definition.specs.Laws.Text.Key.{five-decimal, fiveDigits}
 use Rattle.octets.specs.PutLaws.{put-as}
 use borrow.Author.Needs.{needs}
 use Rattle.key.proofs.put_queue.Statement.{statement}

@@ -1,6 +1,6 @@
 -- `put_single` meets its contract: the string stands behind the tag.
 use native.Mathlib.Omega.{arith}
-use Rattle.definition.specs.KeyLaws.{length-string}
+use Rattle.definition.specs.Laws.Text.Key.{length-string}
 use Rattle.octets.specs.PutLaws.{put-two}
 use Rattle.key.proofs.Room.{wider}
 use borrow.Author.Needs.{needs}

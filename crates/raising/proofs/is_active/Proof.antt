@@ -6,9 +6,9 @@ use denote.Ref.{now}
 use Rattle.octets.specs.Bytes.{Bytes}
 use Rattle.definition.specs.Chain.{present, first}
 use Rattle.definition.specs.Alarm.{hasId}
-use Rattle.definition.specs.SlotLaws.{part-lent}
+use Rattle.definition.specs.Laws.Record.Slot.{part-lent}
 use Rattle.definition.specs.Sound.{station}
-use Rattle.definition.specs.SoundLaws.{sound-holds}
+use Rattle.definition.specs.Laws.Steps.Sound.{sound-holds}
 use Rattle.history.specs.HeldLaws.{found-held, not-found}
 use Rattle.raising.proofs.is_active.Statement.{statement}
 use Rattle.raising.proofs.is_active.Tie as tie

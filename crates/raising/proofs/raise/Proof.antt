@@ -3,7 +3,7 @@ use mathlib.Core.Path.{sym, _∙_}
 use borrow.Author.Needs.{needs}
 use denote.Ref.{now}
 use Rattle.definition.specs.Alarm.{hasKey}
-use Rattle.definition.specs.SoundLaws.{sound-holds}
+use Rattle.definition.specs.Laws.Steps.Sound.{sound-holds}
 use Rattle.raise.specs.Meaning.{raiseValue}
 use Rattle.history.specs.HeldLaws.{Held, found-held, not-found}
 use Rattle.raising.specs.RaiseLaws.{raise-found, raise-none}

@@ -12,7 +12,7 @@ use Rattle.octets.specs.Bytes.{Bytes, same}
 use Rattle.octets.specs.PartLaws.{part-drop}
 use Rattle.definition.specs.Alarm.{sameMaybe}
 use Rattle.definition.specs.Slot.{string, option}
-use Rattle.definition.specs.SlotLaws.{part-first}
+use Rattle.definition.specs.Laws.Record.Slot.{part-first}
 use Rattle.definition.specs.Record.{anyBytes}
 use Rattle.record.proofs.has_some.Statement.{statement}
 use Rattle.record.proofs.has_some.Tie as tie

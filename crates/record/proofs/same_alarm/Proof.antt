@@ -2,7 +2,7 @@
 use mathlib.Core.Path.{_∙_, ap₂}
 use mathlib.Core.Bool.{_&&_}
 use denote.Ref.{now}
-use Rattle.definition.specs.IdentityLaws.{same-identity}
+use Rattle.definition.specs.Laws.Record.Identity.{same-identity}
 use borrow.Author.Needs.{needs}
 use Rattle.record.proofs.same_alarm.Statement.{statement}
 use Rattle.record.proofs.same_alarm.Tie as tie

@@ -3,7 +3,7 @@ use mathlib.Core.Path.{sym}
 use native.Mathlib.Omega.{arith}
 use Rattle.definition.specs.Slot.{cut}
 use Rattle.definition.specs.Record.{readAlarm}
-use Rattle.definition.specs.SlotLaws.{part-first}
+use Rattle.definition.specs.Laws.Record.Slot.{part-first}
 use borrow.Author.Needs.{needs}
 use Rattle.record.proofs.state.Statement.{statement}
 use Rattle.record.proofs.state.Tie as tie

@@ -4,7 +4,7 @@ use Prim.Native.Nat.{ℕ, _+_}
 use native.Mathlib.Omega.{arith}
 use lib.ListN.{take, drop}
 use Rattle.definition.specs.Record.{anyBytes}
-use Rattle.definition.specs.SlotLaws.{part-lent, string-get, string-all}
+use Rattle.definition.specs.Laws.Record.Slot.{part-lent, string-get, string-all}
 use borrow.Author.Needs.{needs}
 use Rattle.record.proofs.string_of.Statement.{statement}
 use Rattle.record.proofs.string_of.Tie as tie

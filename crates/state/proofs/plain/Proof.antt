@@ -3,7 +3,7 @@ use mathlib.Core.Path.{refl, ap}
 use Prim.Native.Nat.{_-_}
 use denote.Ref.{now}
 use Rattle.octets.specs.Bytes.{Bytes}
-use Rattle.definition.specs.SlotLaws.{part-lent}
+use Rattle.definition.specs.Laws.Record.Slot.{part-lent}
 use Rattle.definition.specs.Steps.{plain}
 use Rattle.state.specs.Meaning.{plainOf}
 use native.Mathlib.Omega.{arith}

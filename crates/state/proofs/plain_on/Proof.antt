@@ -3,7 +3,7 @@ use mathlib.Core.Path.{refl, sym, _∙_}
 use borrow.Author.Needs.{needs}
 use denote.Ref.{now}
 use Rattle.definition.specs.Alarm.{hasId}
-use Rattle.definition.specs.SoundLaws.{sound-holds}
+use Rattle.definition.specs.Laws.Steps.Sound.{sound-holds}
 use Rattle.history.specs.HeldLaws.{Held, found-held, not-found}
 use Rattle.changes.specs.Meaning.{actionOf}
 use Rattle.state.specs.ActLaws.{on-found, on-none}

@@ -6,9 +6,9 @@ use lib.ListN.{length}
 use denote.Ref.{now}
 use Rattle.octets.specs.Bytes.{Bytes}
 use Rattle.definition.specs.Value.{CallValue}
-use Rattle.definition.specs.Fields.{LegalCall}
+use Rattle.definition.specs.Laws.Steps.Fields.{LegalCall}
 use Rattle.definition.specs.Perform.{perform}
-use Rattle.definition.specs.ReadLaws.{call-legal}
+use Rattle.definition.specs.Laws.Text.Parse.{call-legal}
 use Rattle.register_check.specs.declared.Checked.{Checked}
 use Rattle.register_check.specs.Meaning.{Gives}
 use Rattle.reply.specs.Meaning.{Replies}

@@ -9,7 +9,7 @@ use Rattle.octets.specs.NumberLaws.{length-be32}
 use Rattle.octets.specs.PutLaws.{put-two, put-as}
 use Rattle.octets.specs.SpliceLaws.{lent-length}
 use Rattle.definition.specs.Cause.{other}
-use Rattle.definition.specs.SlotLaws.{part-lent}
+use Rattle.definition.specs.Laws.Record.Slot.{part-lent}
 use Rattle.model.specs.Meaning.{part}
 use borrow.Author.Needs.{needs}
 use Rattle.strings.proofs.put_other.Statement.{statement}

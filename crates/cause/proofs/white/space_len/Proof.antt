@@ -1,5 +1,5 @@
 -- Three bytes are enough to see white space.
-use Rattle.definition.specs.WhiteLaws.{space-front}
+use Rattle.definition.specs.Laws.Text.White.{space-front}
 use mathlib.Core.Path.{_∙_, sym}
 use lib.ListN.{getD}
 use borrow.Author.Needs.{needs}

@@ -4,7 +4,7 @@ use Prim.Native.Nat.{_-_, _≤_}
 use native.Mathlib.Omega.{arith}
 use lib.ListN.{length, drop}
 use Rattle.definition.specs.White.{startFrom}
-use Rattle.definition.specs.WhiteLaws.{start-plain}
+use Rattle.definition.specs.Laws.Text.White.{start-plain}
 use Rattle.cause.proofs.Trim.{start-step, start-end}
 use borrow.Author.Needs.{needs}
 use Rattle.cause.proofs.white.trim_start.Statement.{statement}

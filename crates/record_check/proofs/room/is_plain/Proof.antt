@@ -4,7 +4,7 @@ use Prim.Native.Nat.{_-_}
 use native.Mathlib.Omega.{arith}
 use lib.ListN.{length, take, drop}
 use Rattle.octets.specs.Bytes.{Bytes, blank}
-use Rattle.definition.specs.SlotLaws.{part-lent}
+use Rattle.definition.specs.Laws.Record.Slot.{part-lent}
 use Rattle.record_check.specs.Ruler.{under}
 use Rattle.record_check.specs.RulerLaws.{length-ruler, left-of-room}
 use borrow.Author.Needs.{needs}

@@ -1,0 +1,8 @@
+-- Consequences of the definition, and the words of contracts inside the code; proved. None need be read to know what is claimed of the
+-- entry points.
+pub mod Text
+pub mod Book
+pub mod Record
+pub mod Steps
+pub mod Twins
+pub mod Table

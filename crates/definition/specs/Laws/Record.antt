@@ -1,0 +1,9 @@
+-- A record's slots: written, read back, tested, compared, changed.
+pub mod Join
+pub mod Slot
+pub mod Object
+pub mod Scope
+pub mod Record
+pub mod Write
+pub mod Identity
+pub mod Test

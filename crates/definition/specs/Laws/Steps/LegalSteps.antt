@@ -1,0 +1,80 @@
+-- The steps on a legal register.
+use Prim.Native.Nat.{ℕ, _≤_, _<_}
+use mathlib.Core.Path.{_≡_, refl, _∙_}
+use mathlib.Core.Bool.{Bool, true, false, cond}
+use mathlib.Core.Option.{Option, none, some}
+use lib.Dec.{leb, eqb}
+use lib.ListN.{length}
+use borrow.Author.Tests.{leb-true, leb-false}
+use Rattle.definition.specs.Chain.{Entry, newest, without, times}
+use Rattle.definition.specs.Alarm.{Alarm, sameIdentity}
+use Rattle.definition.specs.Station.{Station, Outcome, Step, _>>=_, give, freeOldestHistory}
+use Rattle.definition.specs.Answer.{Answer, Raised, Updated, Cleared, ClearWithoutActive, ActiveLimitExceeded, Suppressed, Acknowledged, Unauthorized, AuditFailed, NotFound, Expired, Alarms, Counts, Summary, Events}
+use Rattle.definition.specs.Steps.{makeRoom, extendHistory, historyAfter, intoHistory, retire}
+use Rattle.definition.specs.Laws.Steps.Legal.{Legal}
+use Rattle.definition.specs.Laws.Steps.LegalMoves.{Ends, ok, ends-after, ends-weaken, Aside, addHistory-legal, freeActive-legal, freeOldestHistory-legal, changeHistory-legal}
+
+cond-ends : {A : Type 0} {Q : A → Station → Type 0} {s : Station} (b : Bool) (m n : Step A) → Ends Q (m s) → Ends Q (n s) → Ends Q (cond b m n s)
+cond-ends true m n p q = p
+cond-ends false m n p q = q
+
+aside-trans : {s t u : Station} → Aside s t → Aside t u → Aside s u
+aside-trans p q = record { legal = q .legal; same = q .same ∙ p .same; limit = q .limit ∙ p .limit }
+
+-- a step and then one that leaves the active chain alone
+then-aside : {A : Type 0} {s t : Station} {o : Outcome A} → Aside s t → Ends (λ u v. Aside t v) o → Ends (λ u v. Aside s v) o
+then-aside p e = ends-weaken e (λ u v q. aside-trans p q)
+
+module _ (s : Station) (l : Legal s) where
+  makeRoom-legal : Ends (λ u t. Aside s t × (length (t .history) < t .limitH)) (makeRoom s)
+  unfolding makeRoom _>>=_
+  makeRoom-legal = go (leb (s .limitH) (length (s .history))) refl
+    where
+      go : (b : Bool) → leb (s .limitH) (length (s .history)) ≡ b → Ends (λ u t. Aside s t × (length (t .history) < t .limitH)) (cond b freeOldestHistory (give tt) s)
+      go true p = freeOldestHistory-legal s l (leb-true _ _ p)
+      go false p = ok (record { legal = l; same = refl; limit = refl }, leb-false _ _ p)
+
+  extendHistory-legal : (a : Alarm) → Ends (λ u t. Aside s t) (extendHistory a s)
+  unfolding extendHistory _>>=_
+  extendHistory-legal a = ends-after _ makeRoom-legal (λ u t r. then-aside (r .0) (addHistory-legal t (r .0 .legal) a (r .1)))
+
+  historyAfter-legal : (a : Alarm) (o : Option (Entry Alarm)) → Ends (λ u t. Aside s t) (historyAfter a o s)
+  unfolding historyAfter
+  historyAfter-legal a none = extendHistory-legal a
+  historyAfter-legal a (some e) = cond-ends (sameIdentity (e .content) a) _ _ (changeHistory-legal s l (e .index) a) (extendHistory-legal a)
+
+  pub intoHistory-legal : (a : Alarm) → Ends (λ u t. Aside s t) (intoHistory a s)
+  unfolding intoHistory _>>=_
+  intoHistory-legal a = historyAfter-legal a (newest (s .history))
+
+-- ---- what an answer says: how many alarms came onto the active chain, how many went off it, and of which kind it is:
+-- 8 where alarms are listed, as operations 8 and 9 do, 7 for operation 7, and 0 else
+
+abbrev pub said : Answer → ℕ × ℕ × ℕ
+said (Raised a) = (1, 0, 0)
+said (Updated a) = (0, 0, 0)
+said (Cleared i) = (0, 1, 0)
+said (ClearWithoutActive k c) = (0, 0, 0)
+said (ActiveLimitExceeded k n) = (0, 0, 0)
+said (Suppressed a) = (0, 0, 0)
+said (Acknowledged a) = (0, 0, 0)
+said (Unauthorized m) = (0, 0, 0)
+said (AuditFailed m) = (0, 0, 0)
+said (NotFound i) = (0, 0, 0)
+said (Expired n) = (0, n, 7)
+said (Alarms l) = (0, 0, 8)
+said (Counts l) = (0, 0, 0)
+said (Summary t) = (0, 0, 0)
+said (Events l) = (0, 0, 0)
+
+abbrev pub lists : Answer → Bool
+lists x = eqb (said x .2) 8
+
+-- ---- a step on the active chain
+
+module _ (s : Station) (l : Legal s) where
+  pub retire-legal : (i : ℕ) (a : Alarm) → 1 ≤ times i (s .active) → Ends (λ u t. Legal t × (t .active ≡ without i (s .active)) × (t .limitA ≡ s .limitA)) (retire i a s)
+  unfolding retire _>>=_
+  retire-legal i a h =
+      ends-after _ (freeActive-legal s l i h) (λ u t p.
+      ends-weaken (intoHistory-legal t (p .0) a) (λ v r q. (q .legal, q .same ∙ p .1, q .limit ∙ p .2)))

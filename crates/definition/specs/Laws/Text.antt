@@ -1,0 +1,9 @@
+-- UTF-8, white space, causes, keys, and what the parser reads.
+pub mod Utf8
+pub mod White
+pub mod Trim
+pub mod Cause
+pub mod Key
+pub mod String
+pub mod Parse
+pub mod Kind
