@@ -2,7 +2,7 @@
 use Rattle.octets.specs.Bytes.{Bytes}
 use Rattle.definition.specs.Limits.{shortLimit}
 use Rattle.definition.specs.Reader.{Reader}
-use Rattle.definition.specs.Value.{PlainValue, CallValue}
+use Rattle.definition.specs.Value.{PlainValue, CallValue, acknowledging, suppressing}
 use Rattle.model.specs.Meaning.{part, optPart, within, optWithin}
 use Rattle.fields.specs.declared.Place.{Place}
 use Rattle.fields.specs.Place.{Reads}
@@ -22,10 +22,10 @@ plainValue call p = record { time = p .time; id = part call (p .id); authorised 
 abbrev pub meaning : Bytes → Parsed → CallValue
 meaning call (P.Raise r) = CallValue.raise (raiseValue call r)
 meaning call (P.Clear r) = CallValue.clear (clearValue call r)
-meaning call (P.Acknowledge p) = CallValue.acknowledge (plainValue call p)
-meaning call (P.Suppress p) = CallValue.suppress (plainValue call p)
-meaning call (P.AcknowledgePolicy p) = CallValue.acknowledgePolicy (policyValue call p)
-meaning call (P.SuppressPolicy p) = CallValue.suppressPolicy (policyValue call p)
+meaning call (P.Acknowledge p) = CallValue.plain acknowledging (plainValue call p)
+meaning call (P.Suppress p) = CallValue.plain suppressing (plainValue call p)
+meaning call (P.AcknowledgePolicy p) = CallValue.policy acknowledging (policyValue call p)
+meaning call (P.SuppressPolicy p) = CallValue.policy suppressing (policyValue call p)
 meaning call (P.Expire t) = CallValue.expire t
 meaning call (P.Active v) = CallValue.active v
 meaning call (P.History t s) = CallValue.history (optPart call t) (optPart call s)

@@ -4,7 +4,8 @@ use mathlib.Core.Path.{_≡_, sym}
 use Rattle.octets.specs.Bytes.{Bytes}
 use Rattle.definition.specs.Alarm.{late, withSeverity, withState, withUpdated, withCleared, withText, withDetails}
 use Rattle.definition.specs.Record.{lastActive, alarmBytes, readAlarm}
-use Rattle.definition.specs.Steps.{Action, actionState, updatedState, actedOn, clearedBy, expiredBy}
+use Rattle.definition.specs.Value.{Action}
+use Rattle.definition.specs.Steps.{actionState, updatedState, actedOn, clearedBy, expiredBy}
 use Rattle.history.specs.Meaning.{IsAlarm}
 use Rattle.history.specs.HeldLaws.{payload-bytes}
 use Rattle.changes.specs.Meaning.{Turns, NewsValue, updatedWith}

@@ -8,7 +8,7 @@ use lib.Dec.{leb, eqb}
 use Rattle.octets.specs.Bytes.{Bytes}
 use Rattle.definition.specs.Limits.{shortLimit, regionLimit, textLimit, detailsLimit}
 use Rattle.definition.specs.Reader.{Out, got, bad, Reader, _>>=_, give, refuse, into, number, choice, blob, text, optional, causeText}
-use Rattle.definition.specs.Value.{ObjectValue, PlacesValue, KeyValue, HeadValue, RaiseValue, ClearValue, PlainValue, ScopeValue, ActorValue, RequestValue, VerdictValue, PolicyValue, CallValue}
+use Rattle.definition.specs.Value.{ObjectValue, PlacesValue, KeyValue, HeadValue, RaiseValue, ClearValue, PlainValue, ScopeValue, ActorValue, RequestValue, VerdictValue, PolicyValue, CallValue, acknowledging, suppressing}
 
 -- ---- "An affected object is one of eight kinds, 1 to 8 as `AffectedObject` lists them, with its strings in order; kind 4's shard is
 -- ---- optional, kind 8 ends with a u16 queue."
@@ -186,10 +186,10 @@ unfoldable pub fieldsOf : ℕ → Reader CallValue
 fieldsOf op =
     cond (eqb op 1) (into CallValue.raise raiseFields)
     (cond (eqb op 2) (into CallValue.clear clearFields)
-    (cond (eqb op 3) (into CallValue.acknowledge plainFields)
-    (cond (eqb op 4) (into CallValue.suppress plainFields)
-    (cond (eqb op 5) (into CallValue.acknowledgePolicy policyFields)
-    (cond (eqb op 6) (into CallValue.suppressPolicy policyFields)
+    (cond (eqb op 3) (into (CallValue.plain acknowledging) plainFields)
+    (cond (eqb op 4) (into (CallValue.plain suppressing) plainFields)
+    (cond (eqb op 5) (into (CallValue.policy acknowledging) policyFields)
+    (cond (eqb op 6) (into (CallValue.policy suppressing) policyFields)
     (cond (eqb op 7) (into CallValue.expire (number 8))
     (cond (eqb op 8) (into CallValue.active severityOrAll)
     (cond (eqb op 9) historyFields

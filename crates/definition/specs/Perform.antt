@@ -6,7 +6,7 @@ use lib.ListN.{length}
 use Rattle.definition.specs.Value.{CallValue, opOf}
 use Rattle.definition.specs.Station.{Step, _>>=_, give, refuse}
 use Rattle.definition.specs.Answer.{Answer, answerBytes}
-use Rattle.definition.specs.Steps.{raise, clear, acknowledging, suppressing, plain, policy, expire}
+use Rattle.definition.specs.Steps.{raise, clear, plain, policy, expire}
 use Rattle.definition.specs.Reports.{activeList, historyList, counts, summary, takeAudit}
 
 -- ---- the step of a call
@@ -14,10 +14,8 @@ use Rattle.definition.specs.Reports.{activeList, historyList, counts, su
 abbrev pub stepFor : CallValue → Step Answer
 stepFor (CallValue.raise c) = raise c
 stepFor (CallValue.clear c) = clear c
-stepFor (CallValue.acknowledge p) = plain acknowledging p
-stepFor (CallValue.suppress p) = plain suppressing p
-stepFor (CallValue.acknowledgePolicy p) = policy acknowledging p
-stepFor (CallValue.suppressPolicy p) = policy suppressing p
+stepFor (CallValue.plain x p) = plain x p
+stepFor (CallValue.policy x p) = policy x p
 stepFor (CallValue.expire t) = expire t
 stepFor (CallValue.active v) = activeList v
 stepFor (CallValue.history t l) = historyList t l

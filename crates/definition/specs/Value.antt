@@ -84,14 +84,17 @@ pub record PolicyValue : Type 0 where
   pub request : RequestValue
   pub verdict : VerdictValue
 
+-- "3 acknowledge, 4 suppress"; "5, 6 the same with policy"
+pub data Action : Type 0 where
+  acknowledging : Action
+  suppressing : Action
+
 -- the twelve operations, and the number of a call's first fault
 pub data CallValue : Type 0 where
   raise : RaiseValue → CallValue
   clear : ClearValue → CallValue
-  acknowledge : PlainValue → CallValue
-  suppress : PlainValue → CallValue
-  acknowledgePolicy : PolicyValue → CallValue
-  suppressPolicy : PolicyValue → CallValue
+  plain : Action → PlainValue → CallValue
+  policy : Action → PolicyValue → CallValue
   expire : ℕ → CallValue
   active : ℕ → CallValue
   history : Option Bytes → Option Bytes → CallValue
@@ -104,10 +107,10 @@ pub data CallValue : Type 0 where
 abbrev pub opOf : CallValue → ℕ
 opOf (CallValue.raise c) = 1
 opOf (CallValue.clear c) = 2
-opOf (CallValue.acknowledge p) = 3
-opOf (CallValue.suppress p) = 4
-opOf (CallValue.acknowledgePolicy p) = 5
-opOf (CallValue.suppressPolicy p) = 6
+opOf (CallValue.plain acknowledging p) = 3
+opOf (CallValue.plain suppressing p) = 4
+opOf (CallValue.policy acknowledging p) = 5
+opOf (CallValue.policy suppressing p) = 6
 opOf (CallValue.expire t) = 7
 opOf (CallValue.active v) = 8
 opOf (CallValue.history t l) = 9

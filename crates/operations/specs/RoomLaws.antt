@@ -3,10 +3,10 @@ use Prim.Native.Nat.{ℕ, _≤_, _<_}
 use mathlib.Core.Path.{_≡_, refl, ap, _∙_}
 use borrow.Author.Tests.{lt-ltb, le-ltb}
 use Rattle.octets.specs.Bytes.{Bytes}
-use Rattle.definition.specs.Value.{RaiseValue, ClearValue, PlainValue, PolicyValue, CallValue}
+use Rattle.definition.specs.Value.{RaiseValue, ClearValue, PlainValue, PolicyValue, CallValue, Action, acknowledging, suppressing}
 use Rattle.definition.specs.Station.{Step}
 use Rattle.definition.specs.Answer.{Answer}
-use Rattle.definition.specs.Steps.{raise, clear, Action, acknowledging, suppressing, plain, policy, expire}
+use Rattle.definition.specs.Steps.{raise, clear, plain, policy, expire}
 use Rattle.definition.specs.Reports.{summary}
 use Rattle.definition.specs.Perform.{inRecord, perform}
 use Rattle.definition.specs.Sound.{station}
@@ -14,7 +14,6 @@ use Rattle.definition.specs.Laws.Steps.Does.{Refuses}
 use Rattle.reply.specs.declared.Reply.{Reply}
 use Rattle.reply.specs.Meaning.{Replies}
 use Rattle.reply.specs.ReplyLaws.{replies-at}
-use Rattle.operations.specs.Meaning.{plainCall, policyCall}
 
 -- the call c does the step m where there is room
 abbrev pub Does30 : CallValue → Step Answer → Type 0
@@ -37,12 +36,12 @@ pub clears : (c : ClearValue) → Does30 (CallValue.clear c) (clear c)
 unfolding perform
 clears c n = refl
 
-pub plains : (x : Action) (p : PlainValue) → Does30 (plainCall x p) (plain x p)
+pub plains : (x : Action) (p : PlainValue) → Does30 (CallValue.plain x p) (plain x p)
 unfolding perform
 plains acknowledging p n = refl
 plains suppressing p n = refl
 
-pub policies : (x : Action) (p : PolicyValue) → Does30 (policyCall x p) (policy x p)
+pub policies : (x : Action) (p : PolicyValue) → Does30 (CallValue.policy x p) (policy x p)
 unfolding perform
 policies acknowledging p n = refl
 policies suppressing p n = refl

@@ -13,7 +13,7 @@ ghost use Rattle.admin.specs.Meaning.{Sent};
 ghost use Rattle.call.specs.Meaning.{plainValue};
 ghost use Rattle.changes.specs.Meaning.{actionOf};
 ghost use Rattle.reply.specs.Meaning.{Replies};
-ghost use Rattle.operations.specs.Meaning.{Standing, plainCall, policyCall};
+ghost use Rattle.operations.specs.Meaning.{Standing};
 use call::Plain;
 use changes::Action;
 use model::Record;
@@ -74,7 +74,7 @@ pub fn on_plain(
     ensures { λ y.
         ⌜ Replies
         y
-        (perform (plainCall (actionOf action) (plainValue (now (call .entry)) p)) (length (now (answer .entry))))
+        (perform (CallValue.plain (actionOf action) (plainValue (now (call .entry)) p)) (length (now (answer .entry))))
         (now (register .entry))
         (now (register .exit))
         (now (answer .entry))
@@ -108,7 +108,7 @@ pub fn on_policy(
     ensures { λ y.
         ⌜ Replies
         y
-        (perform (policyCall (actionOf action) (policyValue (now (call .entry)) p)) (length (now (answer .entry))))
+        (perform (CallValue.policy (actionOf action) (policyValue (now (call .entry)) p)) (length (now (answer .entry))))
         (now (register .entry))
         (now (register .exit))
         (now (answer .entry))

@@ -17,7 +17,8 @@ use Rattle.definition.specs.Book.{recordOf}
 use Rattle.definition.specs.Laws.Steps.Fields.{Time}
 use Rattle.definition.specs.Laws.Steps.Change.{acted-legal}
 use Rattle.definition.specs.Station.{Step}
-use Rattle.definition.specs.Steps.{Action, acknowledging, suppressing, actionAnswer, notAuthorized, actedOn, act, plainAt, plain, change}
+use Rattle.definition.specs.Value.{Action, acknowledging, suppressing}
+use Rattle.definition.specs.Steps.{actionAnswer, notAuthorized, actedOn, act, plainAt, plain, change}
 use Rattle.definition.specs.Answer.{Answer, Unauthorized, NotFound, head, headOf, headBytes, body, alarmRecord, answerBytes}
 use Rattle.definition.specs.Sound.{station, sound}
 use Rattle.definition.specs.Laws.Steps.Does.{Does, Answers}

@@ -1,12 +1,12 @@
 -- Calls in values, and what is done to a record that was found.
 use Prim.Native.Nat.{ℕ, _≤_}
 use Rattle.octets.specs.Bytes.{Bytes}
-use Rattle.definition.specs.Value.{KeyValue, ClearValue, PlainValue}
+use Rattle.definition.specs.Value.{KeyValue, ClearValue, PlainValue, Action, acknowledging, suppressing}
 use Rattle.definition.specs.Chain.{Entry}
 use Rattle.definition.specs.Alarm.{Alarm}
 use Rattle.definition.specs.Station.{Step, _>>=_, give}
 use Rattle.definition.specs.Answer.{Answer, Cleared}
-use Rattle.definition.specs.Steps.{Action, acknowledging, suppressing, plain, clearedBy, retire}
+use Rattle.definition.specs.Steps.{plain, clearedBy, retire}
 use Rattle.definition.specs.Laws.Steps.Does.{Answers}
 
 abbrev pub plainOf : ℕ → Bytes → ℕ → PlainValue

@@ -2,7 +2,8 @@
 use mathlib.Core.Path.{refl, sym, ap, _∙_}
 use borrow.Author.Needs.{needs}
 use Rattle.octets.specs.PutLaws.{put-as}
-use Rattle.definition.specs.Steps.{acknowledging, suppressing, notAuthorized}
+use Rattle.definition.specs.Value.{acknowledging, suppressing}
+use Rattle.definition.specs.Steps.{notAuthorized}
 use Rattle.definition.specs.Answer.{Unauthorized, answerBytes}
 use Rattle.answers.specs.AnswerLaws.{answer-as}
 use Rattle.changes.specs.declared.Action.{Action}

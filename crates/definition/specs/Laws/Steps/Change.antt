@@ -8,9 +8,9 @@ use native.Mathlib.Omega.{arith}
 use lib.Dec.{leb}
 use Rattle.octets.specs.Bytes.{Bytes}
 use Rattle.definition.specs.Limits.{textLimit, detailsLimit}
-use Rattle.definition.specs.Value.{RaiseValue, PolicyValue}
+use Rattle.definition.specs.Value.{RaiseValue, PolicyValue, Action, acknowledging, suppressing}
 use Rattle.definition.specs.Alarm.{Alarm, changed}
-use Rattle.definition.specs.Steps.{updatedState, updatedBy, newAlarm, clearedBy, Action, acknowledging, suppressing, actionState, actionByte, actedOn, eventOf, expiredBy}
+use Rattle.definition.specs.Steps.{updatedState, updatedBy, newAlarm, clearedBy, actionState, actionByte, actedOn, eventOf, expiredBy}
 use Rattle.definition.specs.Laws.Steps.Fields.{Time, Maybe, BlobOf, TextOf, KeyOf, LegalAlarm, LegalEvent, LegalRaise, LegalPolicy}
 use Rattle.definition.specs.Laws.Twins.Blank.{blank}
 use Rattle.definition.specs.Laws.Steps.FieldMoves.{late-time}

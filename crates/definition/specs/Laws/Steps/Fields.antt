@@ -119,10 +119,8 @@ pub record LegalPolicy (p : PolicyValue) : Type 0 where
 abbrev pub LegalCall : CallValue → Type 0
 LegalCall (CallValue.raise c) = LegalRaise c
 LegalCall (CallValue.clear c) = Time (c .time)
-LegalCall (CallValue.acknowledge p) = Time (p .time)
-LegalCall (CallValue.suppress p) = Time (p .time)
-LegalCall (CallValue.acknowledgePolicy p) = LegalPolicy p
-LegalCall (CallValue.suppressPolicy p) = LegalPolicy p
+LegalCall (CallValue.plain x p) = Time (p .time)
+LegalCall (CallValue.policy x p) = LegalPolicy p
 LegalCall (CallValue.expire t) = Time t
 LegalCall (CallValue.active v) = Unit {0}
 LegalCall (CallValue.history t l) = Unit {0}

@@ -8,12 +8,12 @@ use mathlib.Core.Option.{Option, none, some}
 use native.Mathlib.Omega.{arith}
 use lib.ListN.{length}
 use Rattle.octets.specs.Bytes.{Bytes, same}
-use Rattle.definition.specs.Value.{RaiseValue}
+use Rattle.definition.specs.Value.{RaiseValue, Action}
 use Rattle.definition.specs.Chain.{Entry, entry, onContent, times}
 use Rattle.definition.specs.Alarm.{Alarm}
 use Rattle.definition.specs.Station.{Station, Step, _>>=_, onActive, withActive, taking, addActive, freeActive, changeActive}
 use Rattle.definition.specs.Answer.{Answer, Raised, Updated}
-use Rattle.definition.specs.Steps.{intoHistory, updatedBy, newAlarm, clearedBy, Action, actionAnswer, actedOn, expiredBy}
+use Rattle.definition.specs.Steps.{intoHistory, updatedBy, newAlarm, clearedBy, actionAnswer, actedOn, expiredBy}
 use Rattle.definition.specs.Laws.Steps.Legal.{Legal}
 use Rattle.definition.specs.Laws.Steps.LegalMoves.{Aside, legalActive, swap-in, swap-out, swap-replaced}
 use Rattle.definition.specs.Laws.Steps.LegalSteps.{said}

@@ -9,14 +9,14 @@ use lib.Dec.{leb, eqb, ltb}
 use lib.ListN.{length}
 use borrow.Author.Tests.{leb-false}
 use Rattle.octets.specs.Bytes.{Bytes, same}
-use Rattle.definition.specs.Value.{RaiseValue, ClearValue, PlainValue}
+use Rattle.definition.specs.Value.{RaiseValue, ClearValue, PlainValue, Action, acknowledging, suppressing}
 use Rattle.definition.specs.Key.{keyOf}
 use Rattle.definition.specs.Laws.Text.Key.{length-key}
 use Rattle.definition.specs.Chain.{Entry, entry, times}
 use Rattle.definition.specs.Alarm.{Alarm, hasKey, hasId, before}
 use Rattle.definition.specs.Station.{Station, Step, give, forEach}
 use Rattle.definition.specs.Answer.{Answer, Updated, ActiveLimitExceeded}
-use Rattle.definition.specs.Steps.{change, retire, updatedBy, newAlarm, store, storeNew, raiseAt, raise, clearAt, clear, Action, acknowledging, suppressing, actionAnswer, actedOn, act, plainAt, plain, isDueEntry, retireDue, expire}
+use Rattle.definition.specs.Steps.{change, retire, updatedBy, newAlarm, store, storeNew, raiseAt, raise, clearAt, clear, actionAnswer, actedOn, act, plainAt, plain, isDueEntry, retireDue, expire}
 use Rattle.definition.specs.Perform.{inRecord}
 use Rattle.definition.specs.Laws.Steps.LegalSteps.{said}
 use Rattle.definition.specs.Laws.Book.Times.{length-without}

@@ -6,7 +6,7 @@ use mathlib.Core.Option.{Option, none, some}
 use Prim.Native.String.{String}
 use Rattle.octets.specs.Bytes.{Bytes, ascii, same, begins, digits, valueFrom, zeros}
 use Rattle.fips180.specs.Sha256.{constants, zerosOf, padded, wordsOf, initial, nextWord, scheduleOf, roundOf, roundsOf, sumOf, blockOf, blocksOf, digestOf, sha256Of}
-use Rattle.definition.specs.Value.{ObjectValue, KeyValue, RaiseValue, ScopeValue, CallValue}
+use Rattle.definition.specs.Value.{ObjectValue, KeyValue, RaiseValue, ScopeValue, CallValue, acknowledging}
 use Rattle.definition.specs.Key.{strings, parts, fedObject, fedPlaces, fed, keyOf}
 use Rattle.definition.specs.Utf8.{leads, follows, utf8From, utf8}
 use Rattle.definition.specs.White.{space, hasSpace}
@@ -64,11 +64,11 @@ clearing time o = CallValue.clear (record { time = time; type = ascii "t"; key =
 
 -- an acknowledge that is not authorised, and one with a policy
 abbrev unauthorised : String → CallValue
-unauthorised i = CallValue.acknowledge (record { time = 0; id = ascii i; authorised = 0 })
+unauthorised i = CallValue.plain acknowledging (record { time = 0; id = ascii i; authorised = 0 })
 
 abbrev withPolicy : String → ℕ → CallValue
 withPolicy i authorised =
-    CallValue.acknowledgePolicy (record {
+    CallValue.policy acknowledging (record {
       actor = record { time = 0; id = ascii i; principal = ascii "p"; tenant = none };
       request = record { reason = []; scope = ScopeValue.globalScope; correlation = none };
       verdict = record { critical = 0; authorised = authorised; denial = ascii "no" };

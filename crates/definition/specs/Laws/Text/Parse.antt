@@ -15,7 +15,7 @@ use Rattle.definition.specs.Limits.{shortLimit, causeLimit, regionLimit,
 use Rattle.definition.specs.Utf8.{utf8}
 use Rattle.definition.specs.Cause.{causeOf}
 use Rattle.definition.specs.Laws.Text.Cause.{cause-stored, cause-length, cause-utf8}
-use Rattle.definition.specs.Value.{ObjectValue, PlacesValue, KeyValue, HeadValue, ScopeValue, ActorValue, RequestValue, CallValue}
+use Rattle.definition.specs.Value.{ObjectValue, PlacesValue, KeyValue, HeadValue, ScopeValue, ActorValue, RequestValue, CallValue, acknowledging, suppressing}
 use Rattle.definition.specs.Reader.{Out, got, bad, Reader, next, _>>=_, give, refuse, into, bytes, number, choice, blob, text, optional, causeIs, causeText}
 use Rattle.definition.specs.Parse.{pair, sessionStore, dataPlaneQueue, objectOf, object, scopeOf, scope, head, places, key, body, named, raiseFields, clearFields, plainFields, actor, request, verdict, policyFields, severityOrAll, historyFields, fieldsOf, whole, parseCall}
 use Rattle.definition.specs.Laws.Steps.Fields.{Time, Maybe, BlobOf, TextOf, CauseOf, ObjectOf, LegalKey, LegalScope, LegalRaise, LegalPolicy, LegalCall}
@@ -268,10 +268,10 @@ unfolding fieldsOf
 fields-reads op =
     if-reads (eqb op 1) _ _ (λ e. into-reads LegalCall CallValue.raise _ raise-reads (λ c p. p)) (λ e.
     if-reads (eqb op 2) _ _ (λ e. into-reads LegalCall CallValue.clear _ clear-reads (λ c p. p)) (λ e.
-    if-reads (eqb op 3) _ _ (λ e. into-reads LegalCall CallValue.acknowledge _ plain-reads (λ c p. p)) (λ e.
-    if-reads (eqb op 4) _ _ (λ e. into-reads LegalCall CallValue.suppress _ plain-reads (λ c p. p)) (λ e.
-    if-reads (eqb op 5) _ _ (λ e. into-reads LegalCall CallValue.acknowledgePolicy _ policy-reads (λ c p. p)) (λ e.
-    if-reads (eqb op 6) _ _ (λ e. into-reads LegalCall CallValue.suppressPolicy _ policy-reads (λ c p. p)) (λ e.
+    if-reads (eqb op 3) _ _ (λ e. into-reads LegalCall (CallValue.plain acknowledging) _ plain-reads (λ c p. p)) (λ e.
+    if-reads (eqb op 4) _ _ (λ e. into-reads LegalCall (CallValue.plain suppressing) _ plain-reads (λ c p. p)) (λ e.
+    if-reads (eqb op 5) _ _ (λ e. into-reads LegalCall (CallValue.policy acknowledging) _ policy-reads (λ c p. p)) (λ e.
+    if-reads (eqb op 6) _ _ (λ e. into-reads LegalCall (CallValue.policy suppressing) _ policy-reads (λ c p. p)) (λ e.
     if-reads (eqb op 7) _ _ (λ e. into-reads LegalCall CallValue.expire _ (number-reads 8) (λ c p. p)) (λ e.
     if-reads (eqb op 8) _ _ (λ e. into-reads LegalCall CallValue.active _ severity-reads (λ c p. tt)) (λ e.
     if-reads (eqb op 9) _ _ (λ e. history-reads) (λ e.

@@ -9,14 +9,14 @@ use lib.Dec.{leb, eqb, ltb}
 use lib.ListN.{length, take}
 use borrow.Author.Tests.{leb-false}
 use Rattle.octets.specs.Bytes.{Bytes, same}
-use Rattle.definition.specs.Value.{RaiseValue, PolicyValue, CallValue, opOf}
+use Rattle.definition.specs.Value.{RaiseValue, PolicyValue, CallValue, opOf, Action, acknowledging, suppressing}
 use Rattle.definition.specs.Chain.{Entry, entry, contents, those}
 use Rattle.definition.specs.Laws.Book.Contents.{map-map, those-map}
 use Rattle.definition.specs.Alarm.{Alarm, Event, hasId, hasSeverity, inScope, isCritical}
 use Rattle.definition.specs.Station.{Station, Step, _>>_, give, forEach, addAudit, oldestAuditOf, freeOldestAudit, oneMore, countSuccess, countFailure}
 use Rattle.definition.specs.Answer.{Answer, Alarms, Counts, Summary, Events, answerBytes}
 use Rattle.definition.specs.Laws.Steps.Answer.{size-blank}
-use Rattle.definition.specs.Steps.{Action, acknowledging, suppressing, eventStored, eventLost, attempt, eventOf, deny, allow, needsOverride, policyAt, policy}
+use Rattle.definition.specs.Steps.{eventStored, eventLost, attempt, eventOf, deny, allow, needsOverride, policyAt, policy}
 use Rattle.definition.specs.Reports.{activeList, historyList, rating, tally, counts, severityOf, worst, worstImpact, summary, freeOne, takeAudit}
 use Rattle.definition.specs.Perform.{stepFor, inLength, asksRecord, inRoom, perform}
 use Rattle.definition.specs.Laws.Steps.Fields.{Time, Each, LegalEvent, LegalPolicy, LegalCall}
@@ -190,10 +190,10 @@ pub data TwinCalls : CallValue → CallValue → Type 0 where
 step-twin : {n : ℕ} (c : CallValue) → LegalCall c → Related (Twin n) (Told twin (kindOf (opOf c)) n) (stepFor c) (stepFor c)
 step-twin (CallValue.raise c) h = raise-like twin-lasts {c = c} {w = c .text} {d = c .details} (h, h)
 step-twin (CallValue.clear c) h = clear-like twin-lasts c h
-step-twin (CallValue.acknowledge p) h = plain-like twin-lasts acknowledging p h
-step-twin (CallValue.suppress p) h = plain-like twin-lasts suppressing p h
-step-twin (CallValue.acknowledgePolicy p) h = policy-twin acknowledging p h
-step-twin (CallValue.suppressPolicy p) h = policy-twin suppressing p h
+step-twin (CallValue.plain acknowledging p) h = plain-like twin-lasts acknowledging p h
+step-twin (CallValue.plain suppressing p) h = plain-like twin-lasts suppressing p h
+step-twin (CallValue.policy acknowledging p) h = policy-twin acknowledging p h
+step-twin (CallValue.policy suppressing p) h = policy-twin suppressing p h
 step-twin (CallValue.expire t) h = expire-like twin-lasts t h
 step-twin (CallValue.active v) h = activeList-twin v
 step-twin (CallValue.history t l) h = historyList-twin t l

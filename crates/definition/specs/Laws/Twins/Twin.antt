@@ -12,7 +12,8 @@ use Rattle.definition.specs.Chain.{Entry, entry, newest, replaced}
 use Rattle.definition.specs.Alarm.{Alarm, sameIdentity}
 use Rattle.definition.specs.Station.{Station, taking, addHistory, oldestHistoryOf, freeOldestHistory, changeHistory}
 use Rattle.definition.specs.Answer.{Raised, Updated, Acknowledged, Suppressed}
-use Rattle.definition.specs.Steps.{makeRoom, extendHistory, historyAfter, intoHistory, updatedBy, newAlarm, clearedBy, Action, acknowledging, suppressing, actionAnswer, actedOn, expiredBy}
+use Rattle.definition.specs.Value.{Action, acknowledging, suppressing}
+use Rattle.definition.specs.Steps.{makeRoom, extendHistory, historyAfter, intoHistory, updatedBy, newAlarm, clearedBy, actionAnswer, actedOn, expiredBy}
 use Rattle.definition.specs.Laws.Steps.Fields.{Time, Each, LegalAlarm, LegalEvent, LegalRaise}
 use Rattle.definition.specs.Laws.Steps.Change.{past, updated-legal, new-legal, cleared-legal, acted-legal, expired-legal}
 use Rattle.definition.specs.Laws.Steps.LegalMoves.{addHistory-legal, freeOldestHistory-legal, changeHistory-legal}
