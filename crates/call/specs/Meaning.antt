@@ -4,10 +4,10 @@ use Rattle.definition.specs.Limits.{shortLimit}
 use Rattle.definition.specs.Reader.{Reader}
 use Rattle.definition.specs.Value.{PlainValue, CallValue, acknowledging, suppressing}
 use Rattle.model.specs.Meaning.{part, optPart, within, optWithin}
-use Rattle.fields.specs.declared.Place.{Place}
-use Rattle.fields.specs.Place.{Reads}
-use Rattle.policy.specs.Meaning.{policyValue, PolicyWithin}
-use Rattle.raise.specs.Meaning.{raiseValue, clearValue, RaiseWithin, ClearWithin}
+use Rattle.fields.specs.declared.Cursor.{Cursor}
+use Rattle.fields.specs.Cursor.{Reads}
+use Rattle.policy_fields.specs.Meaning.{policyValue, PolicyWithin}
+use Rattle.raise_fields.specs.Meaning.{raiseValue, clearValue, RaiseWithin, ClearWithin}
 use Rattle.call.specs.declared.Plain.{Plain}
 use Rattle.call.specs.declared.Parsed.{Parsed}
 use Rattle.call.specs.declared.Parsed.the-variants as P
@@ -52,5 +52,5 @@ parsedWithin call (P.TakeAudit n) = Unit
 parsedWithin call (P.Refused n) = Unit
 
 -- ---- what is read on from a place: the value that the answer means, every part of it within its limit
-abbrev pub Says : Bytes → Place → Reader CallValue → CallRead → Type 0
+abbrev pub Says : Bytes → Cursor → Reader CallValue → CallRead → Type 0
 Says call at fields r = Reads call at fields (meaning call (r .parsed)) (r .next) × parsedWithin call (r .parsed)

@@ -1,16 +1,16 @@
 // A call: its operation and its fields, read to numbers, and to places and lengths of its strings.
+use fields::Cursor;
 use fields::NumRead;
-use fields::Place;
-use fields::Rule;
+use fields::StringKind;
 use model::OptSpan;
 use model::Record;
 use model::Span;
-use policy::Policy;
-use policy::PolicyRead;
-use raise::Clear;
-use raise::ClearRead;
-use raise::Raise;
-use raise::RaiseRead;
+use policy_fields::Policy;
+use policy_fields::PolicyRead;
+use raise_fields::Clear;
+use raise_fields::ClearRead;
+use raise_fields::Raise;
+use raise_fields::RaiseRead;
 ghost use mathlib.Core.Path.{_≡_};
 ghost use mathlib.Core.Bool.{_||_};
 ghost use Prim.Native.Nat.{_<_};
@@ -20,7 +20,7 @@ ghost use Rattle.definition.specs.Reader.{into};
 ghost use Rattle.definition.specs.Value.{CallValue};
 ghost use Rattle.definition.specs.Parse.{plainFields, severityOrAll, historyFields, fieldsOf, whole, parseCall};
 ghost use Rattle.model.specs.Meaning.{within};
-ghost use Rattle.fields.specs.Place.{outAt, Reads};
+ghost use Rattle.fields.specs.Cursor.{outAt, Reads};
 ghost use Rattle.call.specs.Meaning.{plainValue, meaning, parsedWithin, Says};
 
 // An acknowledgement or a suppression without a policy. The flag is 0 or 1.
@@ -50,12 +50,12 @@ pub enum Parsed {
 // What a reader answers: a value, and where the reading stands after it.
 struct PlainRead {
     plain: Plain,
-    next: Place,
+    next: Cursor,
 }
 
 struct CallRead {
     parsed: Parsed,
-    next: Place,
+    next: Cursor,
 }
 
 // ---- 1 raise, 2 clear
@@ -82,7 +82,7 @@ fn clear_of(r: ClearRead) -> CallRead
 
 // ---- 3 acknowledge, 4 suppress, and 5, 6 the same with policy
 
-fn plain_at(call: &[u8], at: Place) -> PlainRead
+fn plain_at(call: &[u8], at: Cursor) -> PlainRead
     ensures { λ r. ⌜ Reads (now (call .entry)) at plainFields (plainValue (now (call .entry)) (r .plain)) (r .next) × within (now (call .entry)) shortLimit (r .plain .id) ⌝ }
 {
     let time = fields::number_at(call, at, 8);
@@ -161,7 +161,7 @@ fn is_severity_or_all(v: u64) -> bool
 }
 
 // A severity, or 255 for all.
-fn active_at(call: &[u8], at: Place) -> CallRead
+fn active_at(call: &[u8], at: Cursor) -> CallRead
     ensures { λ r. ⌜ Says (now (call .entry)) at (into CallValue.active severityOrAll) r ⌝ }
 {
     let severity = fields::number_at(call, at, 1);
@@ -173,13 +173,13 @@ fn active_at(call: &[u8], at: Place) -> CallRead
     }
 }
 
-fn history_at(call: &[u8], at: Place) -> CallRead
+fn history_at(call: &[u8], at: Cursor) -> CallRead
     ensures { λ r. ⌜ Says (now (call .entry)) at historyFields r ⌝ }
 {
-    let tenant = fields::option_at(call, at, Record::SHORT, Rule::Text);
+    let tenant = fields::option_at(call, at, Record::SHORT, StringKind::Text);
     let at = tenant.next;
     let tenant = tenant.text;
-    let slice = fields::option_at(call, at, Record::SHORT, Rule::Text);
+    let slice = fields::option_at(call, at, Record::SHORT, StringKind::Text);
     let at = slice.next;
     let slice = slice.text;
     CallRead {
@@ -205,16 +205,16 @@ fn take_audit_of(r: NumRead) -> CallRead
 // ---- the whole call
 
 // The fields of an operation.
-fn operation_at(call: &[u8], at: Place, op: u8) -> CallRead
+fn operation_at(call: &[u8], at: Cursor, op: u8) -> CallRead
     ensures { λ r. ⌜ Says (now (call .entry)) at (fieldsOf op) r ⌝ }
 {
     match op {
-        1 => raise_of(raise::raise_at(call, at)),
-        2 => clear_of(raise::clear_at(call, at)),
+        1 => raise_of(raise_fields::raise_at(call, at)),
+        2 => clear_of(raise_fields::clear_at(call, at)),
         3 => acknowledge_of(plain_at(call, at)),
         4 => suppress_of(plain_at(call, at)),
-        5 => acknowledge_policy_of(policy::policy_at(call, at)),
-        6 => suppress_policy_of(policy::policy_at(call, at)),
+        5 => acknowledge_policy_of(policy_fields::policy_at(call, at)),
+        6 => suppress_policy_of(policy_fields::policy_at(call, at)),
         7 => expire_of(fields::number_at(call, at, 8)),
         8 => active_at(call, at),
         9 => history_at(call, at),
@@ -235,13 +235,13 @@ fn operation_at(call: &[u8], at: Place, op: u8) -> CallRead
 }
 
 // A call whose fields were read: nothing may come after them.
-fn finished(call: &[u8], at: Place, p: Parsed) -> Parsed
+fn finished(call: &[u8], at: Cursor, p: Parsed) -> Parsed
     requires { ⌜ parsedWithin (now call) p ⌝ }
     ensures { λ r. ⌜ (meaning (now (call .entry)) r ≡ whole (outAt (now (call .entry)) (meaning (now (call .entry)) p) at)) × parsedWithin (now (call .entry)) r ⌝ }
 {
     match at {
-        Place::Fault(k) => Parsed::Refused(k),
-        Place::At(i) => {
+        Cursor::Fault(k) => Parsed::Refused(k),
+        Cursor::At(i) => {
             if i < call.len() {
                 return Parsed::Refused(24);
             }
@@ -257,6 +257,6 @@ pub fn parse(call: &[u8]) -> Parsed
     if call.len() == 0 {
         return Parsed::Refused(23);
     }
-    let CallRead { parsed, next } = operation_at(call, Place::At(1), call[0]);
+    let CallRead { parsed, next } = operation_at(call, Cursor::At(1), call[0]);
     finished(call, next, parsed)
 }

@@ -11,10 +11,10 @@ use model::KeyFields;
 use model::OptSpan;
 use model::Places;
 use model::Span;
-use policy::Policy;
-use policy::Scope;
-use raise::Clear;
-use raise::Raise;
+use policy_fields::Policy;
+use policy_fields::Scope;
+use raise_fields::Clear;
+use raise_fields::Raise;
 
 // ---- the words of a line: a blank, and a number or a string
 

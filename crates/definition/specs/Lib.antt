@@ -31,5 +31,7 @@ pub mod Lists
 pub mod Twins
 pub mod Mask
 pub mod Claim
+-- the words of contracts inside the code
+pub mod Contracts
 -- what follows from it
 pub mod Laws

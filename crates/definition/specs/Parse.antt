@@ -8,7 +8,7 @@ use lib.Dec.{leb, eqb}
 use Rattle.octets.specs.Bytes.{Bytes}
 use Rattle.definition.specs.Limits.{shortLimit, regionLimit, textLimit, detailsLimit}
 use Rattle.definition.specs.Reader.{Out, got, bad, Reader, _>>=_, give, refuse, into, number, choice, blob, text, optional, causeText}
-use Rattle.definition.specs.Value.{ObjectValue, PlacesValue, KeyValue, HeadValue, RaiseValue, ClearValue, PlainValue, ScopeValue, ActorValue, RequestValue, VerdictValue, PolicyValue, CallValue, acknowledging, suppressing}
+use Rattle.definition.specs.Value.{ObjectValue, PlacesValue, KeyValue, RaiseHeadValue, RaiseValue, ClearValue, PlainValue, ScopeValue, ActorValue, RequestValue, VerdictValue, PolicyValue, CallValue, acknowledging, suppressing}
 
 -- ---- "An affected object is one of eight kinds, 1 to 8 as `AffectedObject` lists them, with its strings in order; kind 4's shard is
 -- ---- optional, kind 8 ends with a u16 queue."
@@ -68,8 +68,8 @@ scope = do
 -- ---- 1 raise: time, id, type, severity, cause, object, tenant?, slice?, region?, text, details?
 
 -- time, id, type, severity
-unfoldable pub head : Reader HeadValue
-head = do
+unfoldable pub raiseHead : Reader RaiseHeadValue
+raiseHead = do
   time ← number 8
   id ← text shortLimit
   type ← text shortLimit
@@ -93,8 +93,8 @@ key = do
   give (record { cause = c; object = o; places = p })
 
 -- text, details?
-unfoldable pub body : HeadValue → KeyValue → Reader RaiseValue
-body h k = do
+unfoldable pub raiseBody : RaiseHeadValue → KeyValue → Reader RaiseValue
+raiseBody h k = do
   t ← text textLimit
   d ← optional (blob detailsLimit)
   give (record { head = h; key = k; text = t; details = d })
@@ -108,9 +108,9 @@ named (some (b ∷ s)) = true
 -- 29: "raise with an empty region", at the region, before the text is read
 unfoldable pub raiseFields : Reader RaiseValue
 raiseFields = do
-  h ← head
+  h ← raiseHead
   k ← key
-  cond (named (k .places .region)) (body h k) (refuse 29)
+  cond (named (k .places .region)) (raiseBody h k) (refuse 29)
 
 -- ---- 2 clear: time, type, cause, object, tenant?, slice?, region?
 

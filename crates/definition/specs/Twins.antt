@@ -4,24 +4,24 @@ use mathlib.Core.Path.{_≡_}
 use mathlib.Core.List.{List, [], _∷_, _++_}
 use mathlib.Core.Bool.{cond}
 use Rattle.octets.specs.Bytes.{Bytes}
-use Rattle.definition.specs.Value.{HeadValue, KeyValue, RaiseValue}
+use Rattle.definition.specs.Value.{RaiseHeadValue, KeyValue, RaiseValue}
 use Rattle.definition.specs.Reader.{got, Reader, _>>=_, give, refuse}
-use Rattle.definition.specs.Parse.{head, key, named, body}
+use Rattle.definition.specs.Parse.{raiseHead, key, named, raiseBody}
 
 -- the fields of a raise before its text: those of `raiseFields`, up to the fault 29
-unfoldable pub beforeText : Reader (HeadValue × KeyValue)
+unfoldable pub beforeText : Reader (RaiseHeadValue × KeyValue)
 beforeText = do
-  h ← head
+  h ← raiseHead
   k ← key
   cond (named (k .places .region)) (give (h, k)) (refuse 29)
 
 -- "with each field read without a fault": those before the text from the bytes `before`, text and details from `texts`. `after` is what is
 -- left over
 pub record ReadRaise (before texts after : Bytes) : Type 0 where
-  pub early : HeadValue × KeyValue
+  pub early : RaiseHeadValue × KeyValue
   pub raise : RaiseValue
   pub beforeRead : beforeText (before ++ (texts ++ after)) ≡ got early (texts ++ after)
-  pub textsRead : body (early .0) (early .1) (texts ++ after) ≡ got raise after
+  pub textsRead : raiseBody (early .0) (early .1) (texts ++ after) ≡ got raise after
 
 -- "both are raises with each field read without a fault, and equal outside the fields text and details"
 pub record TwinRaises (b b′ : Bytes) : Type 0 where

@@ -28,7 +28,7 @@ pub record KeyValue : Type 0 where
   pub places : PlacesValue
 
 -- a raise's fields before its cause
-pub record HeadValue : Type 0 where
+pub record RaiseHeadValue : Type 0 where
   pub time : ℕ
   pub id : Bytes
   pub type : Bytes
@@ -36,7 +36,7 @@ pub record HeadValue : Type 0 where
 
 -- 1 raise
 pub record RaiseValue : Type 0 where
-  pub head : HeadValue
+  pub head : RaiseHeadValue
   pub key : KeyValue
   pub text : Bytes
   pub details : Option Bytes

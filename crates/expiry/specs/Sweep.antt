@@ -10,7 +10,7 @@ use Rattle.definition.specs.Record.{readAlarm}
 use Rattle.definition.specs.Book.{Record, readBook}
 use Rattle.definition.specs.Station.{forEach}
 use Rattle.definition.specs.Steps.{isDueEntry, retireDue}
-use Rattle.definition.specs.Laws.Steps.Does.{Does}
+use Rattle.definition.specs.Contracts.Does.{Does}
 use Rattle.history.specs.Meaning.{Newest}
 use Rattle.history.specs.Walk.{Along}
 use Rattle.expiry.specs.declared.Stand.{Stand}

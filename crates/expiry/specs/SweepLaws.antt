@@ -16,24 +16,24 @@ use Rattle.definition.specs.Alarm.{Alarm, isDue}
 use Rattle.definition.specs.Record.{lastState, alarmBytes, readAlarm}
 use Rattle.definition.specs.Book.{Record, recordOf, readBook}
 use Rattle.definition.specs.Laws.Book.Split.{lastFrom, last-from-zero}
-use Rattle.definition.specs.Laws.Book.Sound.{length-at}
-use Rattle.definition.specs.Laws.Steps.Fields.{Time}
-use Rattle.definition.specs.Laws.Steps.Change.{expired-legal}
+use Rattle.definition.specs.Laws.Book.SoundNumbers.{length-at}
+use Rattle.definition.specs.Contracts.LegalFields.{Time}
+use Rattle.definition.specs.Laws.Steps.ChangedLegal.{expired-legal}
 use Rattle.definition.specs.Station.{Step, give, forEach}
 use Rattle.definition.specs.Laws.Steps.LegalSteps.{retire-legal}
 use Rattle.definition.specs.Steps.{expiredBy, retire, isDueEntry, retireDue, expire}
 use Rattle.definition.specs.Answer.{Expired, answerBytes}
 use Rattle.definition.specs.Sound.{bookOf, stationOf, station, sound}
-use Rattle.definition.specs.Laws.Steps.Sound.{sound-holds}
-use Rattle.definition.specs.Laws.Book.Times.{times-hit, times-miss}
-use Rattle.definition.specs.Laws.Book.Moves.{prevOf, CanRelease}
-use Rattle.definition.specs.Laws.Steps.Does.{Does, Answers}
+use Rattle.definition.specs.Laws.Steps.SoundStation.{sound-holds}
+use Rattle.definition.specs.Laws.Book.Occurrences.{times-hit, times-miss}
+use Rattle.definition.specs.Contracts.Moves.{prevOf, CanRelease}
+use Rattle.definition.specs.Contracts.Does.{Does, Answers}
 use Rattle.history.specs.Meaning.{IsAlarm, Newest, OnActive, Files}
 use Rattle.history.specs.DoesLaws.{does-then, does-give, does-look, does-end}
 use Rattle.history.specs.Walk.{alarmAt}
 use Rattle.history.specs.WalkLaws.{along-start, along-here, along-parts, along-on, along-once, along-fits, along-link, along-next}
 use Rattle.history.specs.CountLaws.{those-hit, those-miss}
-use Rattle.history.specs.HeldLaws.{changed-payload, on-station}
+use Rattle.history.specs.FoundLaws.{changed-payload, on-station}
 use Rattle.answers.specs.AnswerLaws.{answers-put}
 use Rattle.expiry.specs.Sweep.{dueOf, Swept, Sweep}
 use Rattle.expiry.specs.declared.Stand.{Stand}

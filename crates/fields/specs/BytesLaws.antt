@@ -12,9 +12,9 @@ use Rattle.octets.specs.Bytes.{Bytes}
 use Rattle.definition.specs.Reader.{bytes}
 use Rattle.model.specs.Meaning.{part, within}
 use Rattle.model.specs.declared.Span.{Span}
-use Rattle.fields.specs.Place.{Reads, checked, room}
-use Rattle.fields.specs.declared.Place.{Place}
-use Rattle.fields.specs.declared.Place.the-variants.{At, Fault}
+use Rattle.fields.specs.Cursor.{Reads, checked, bytesFrom}
+use Rattle.fields.specs.declared.Cursor.{Cursor}
+use Rattle.fields.specs.declared.Cursor.the-variants.{At, Fault}
 
 module _ (call : Bytes) (i : ℕ) where
   pub none-read : Reads call (At i) (bytes 0) (take 0 (drop 0 call)) (At i)
@@ -29,22 +29,22 @@ module _ (call : Bytes) (i : ℕ) where
   unfolding bytes
   bytes-read n h = record { out = rw (le-leb n (length (drop i call)) (omega (arith, length-drop i call)), drop-drop n i call) }
 
-room-le : (q : Place) (n : ℕ) → room q n ≤ n
-room-le (At i) n = omega arith
-room-le (Fault k) n = omega arith
+bytesFrom-le : (q : Cursor) (n : ℕ) → bytesFrom q n ≤ n
+bytesFrom-le (At i) n = omega arith
+bytesFrom-le (Fault k) n = omega arith
 
-pub part-small : (call : Bytes) (p : Span) (q : Place) (n : ℕ) → within call (room q n) p → length (part call p) ≤ n
-part-small call p q n w = rw (length-take) (omega (arith, room-le q n))
+pub part-small : (call : Bytes) (p : Span) (q : Cursor) (n : ℕ) → within call (bytesFrom q n) p → length (part call p) ≤ n
+part-small call p q n w = rw (length-take) (omega (arith, bytesFrom-le q n))
 
 pub below-power : {v m n : ℕ} → m ≤ n → v < 256 ^ m → v < 256 ^ n
 below-power h k = lt-of-lt-of-le k (pow-le-pow-right {n = 256} (omega arith) h)
 
 -- bytes that are asked for within a limit are within it
-pub room-checked : (q : Place) (n limit k : ℕ) → room (checked q (leb n limit) k) n ≤ limit
+pub bytesFrom-checked : (q : Cursor) (n limit k : ℕ) → bytesFrom (checked q (leb n limit) k) n ≤ limit
 unfolding checked
-room-checked q n limit k = go (leb n limit) refl q
+bytesFrom-checked q n limit k = go (leb n limit) refl q
   where
-    go : (b : Bool) → leb n limit ≡ b → (q : Place) → room (checked q b k) n ≤ limit
+    go : (b : Bool) → leb n limit ≡ b → (q : Cursor) → bytesFrom (checked q b k) n ≤ limit
     go true e (At i) = leb-true n limit e
     go true e (Fault j) = omega arith
     go false e (At i) = omega arith

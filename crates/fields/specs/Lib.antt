@@ -1,5 +1,5 @@
-pub mod Place
-pub mod PlaceLaws
+pub mod Cursor
+pub mod CursorLaws
 pub mod BytesLaws
-pub mod Rule
-pub mod RuleLaws
+pub mod StringKind
+pub mod StringKindLaws

@@ -11,11 +11,11 @@ ghost use lib.Dec.{leb};
 ghost use lib.ListN.{length};
 ghost use Rattle.definition.specs.Reader.{bytes, number, choice, blob, text, optional, causeText};
 ghost use Rattle.model.specs.Meaning.{part, optPart, causePart, within, optWithin, causeWithin};
-ghost use Rattle.fields.specs.Place.{checked, noBytes, room, Reads, IsCause};
-ghost use Rattle.fields.specs.Rule.{obeyed, stringBy};
+ghost use Rattle.fields.specs.Cursor.{checked, noBytes, bytesFrom, Reads, IsCause};
+ghost use Rattle.fields.specs.StringKind.{obeyed, stringBy};
 
 // Where the reading of a call stands: at a place, or at its first fault, which wins: a reader that is handed a fault hands it on.
-pub enum Place {
+pub enum Cursor {
     At(usize),
     Fault(u8),
 }
@@ -23,45 +23,45 @@ pub enum Place {
 // What a reader answers: a value, and where the reading stands after it. The value means something where that is a place.
 pub struct NumRead {
     pub value: u64,
-    pub next: Place,
+    pub next: Cursor,
 }
 
 pub struct ByteRead {
     pub value: u8,
-    pub next: Place,
+    pub next: Cursor,
 }
 
 pub struct TextRead {
     pub text: Span,
-    pub next: Place,
+    pub next: Cursor,
 }
 
 pub struct OptRead {
     pub text: OptSpan,
-    pub next: Place,
+    pub next: Cursor,
 }
 
 pub struct CauseRead {
     pub cause: CauseSpan,
-    pub next: Place,
+    pub next: Cursor,
 }
 
 // Which strings a field takes: those in UTF-8, or any bytes.
-pub enum Rule {
+pub enum StringKind {
     Text,
     Blob,
 }
 
 // A fault with this number, unless a test held or there is a fault already.
-pub fn refuse_unless(at: Place, ok: bool, number: u8) -> Place
+pub fn refuse_unless(at: Cursor, ok: bool, number: u8) -> Cursor
     ensures { λ r. ⌜ r ≡ checked at ok number ⌝ }
 {
     if ok {
         return at;
     }
     match at {
-        Place::At(_) => Place::Fault(number),
-        Place::Fault(k) => Place::Fault(k),
+        Cursor::At(_) => Cursor::Fault(number),
+        Cursor::Fault(k) => Cursor::Fault(k),
     }
 }
 
@@ -77,7 +77,7 @@ fn part_of(call: &[u8], p: Span) -> &[u8]
     &call[a..e]
 }
 
-fn no_bytes(next: Place) -> TextRead
+fn no_bytes(next: Cursor) -> TextRead
     ensures { λ r. ⌜ r ≡ noBytes next ⌝ }
 {
     TextRead {
@@ -87,24 +87,24 @@ fn no_bytes(next: Place) -> TextRead
 }
 
 // The next n bytes.
-fn bytes_at(call: &[u8], at: Place, n: usize) -> TextRead
-    ensures { λ r. ⌜ Reads (now (call .entry)) at (bytes n) (part (now (call .entry)) (r .text)) (r .next) × within (now (call .entry)) (room at n) (r .text) ⌝ }
+fn bytes_at(call: &[u8], at: Cursor, n: usize) -> TextRead
+    ensures { λ r. ⌜ Reads (now (call .entry)) at (bytes n) (part (now (call .entry)) (r .text)) (r .next) × within (now (call .entry)) (bytesFrom at n) (r .text) ⌝ }
 {
     match at {
-        Place::Fault(k) => no_bytes(Place::Fault(k)),
-        Place::At(i) => {
+        Cursor::Fault(k) => no_bytes(Cursor::Fault(k)),
+        Cursor::At(i) => {
             if n == 0 {
-                return no_bytes(Place::At(i));
+                return no_bytes(Cursor::At(i));
             }
             if call.len() < i {
-                return no_bytes(Place::Fault(24));
+                return no_bytes(Cursor::Fault(24));
             }
             if call.len() - i < n {
-                return no_bytes(Place::Fault(24));
+                return no_bytes(Cursor::Fault(24));
             }
             TextRead {
                 text: Span { at: i, len: n },
-                next: Place::At(i + n),
+                next: Cursor::At(i + n),
             }
         }
     }
@@ -113,7 +113,7 @@ fn bytes_at(call: &[u8], at: Place, n: usize) -> TextRead
 // ---- numbers
 
 // A number of n bytes.
-pub fn number_at(call: &[u8], at: Place, n: usize) -> NumRead
+pub fn number_at(call: &[u8], at: Cursor, n: usize) -> NumRead
     requires { ⌜ n ≤ 8 ⌝ }
     ensures { λ r. ⌜ Reads (now (call .entry)) at (number n) (r .value) (r .next) × (r .value < 256 ^ n) ⌝ }
 {
@@ -136,7 +136,7 @@ fn among(v: u8, lo: u8, hi: u8) -> bool
 }
 
 // A byte from lo to hi.
-pub fn choice_at(call: &[u8], at: Place, lo: u8, hi: u8) -> ByteRead
+pub fn choice_at(call: &[u8], at: Cursor, lo: u8, hi: u8) -> ByteRead
     ensures { λ r. ⌜ Reads (now (call .entry)) at (choice lo hi) (r .value) (r .next) ⌝ }
 {
     let b = number_at(call, at, 1);
@@ -151,7 +151,7 @@ pub fn choice_at(call: &[u8], at: Place, lo: u8, hi: u8) -> ByteRead
 // ---- strings
 
 // A string, its bytes as they stand. The limit is tested before the bytes are looked for.
-fn blob_at(call: &[u8], at: Place, limit: usize) -> TextRead
+fn blob_at(call: &[u8], at: Cursor, limit: usize) -> TextRead
     ensures { λ r. ⌜ Reads (now (call .entry)) at (blob limit) (part (now (call .entry)) (r .text)) (r .next) × within (now (call .entry)) limit (r .text) ⌝ }
 {
     let n = number_at(call, at, 4);
@@ -160,39 +160,39 @@ fn blob_at(call: &[u8], at: Place, limit: usize) -> TextRead
     bytes_at(call, refuse_unless(next, len <= limit, 26), len)
 }
 
-// Whether a rule takes a string's bytes: they are handed on.
-fn obeys(part: &[u8], rule: Rule) -> bool
-    ensures { λ r. ⌜ r ≡ obeyed rule (now (part .entry)) ⌝ }
+// Whether a kind takes a string's bytes: they are handed on.
+fn obeys(part: &[u8], kind: StringKind) -> bool
+    ensures { λ r. ⌜ r ≡ obeyed kind (now (part .entry)) ⌝ }
 {
-    match rule {
-        Rule::Text => utf8::is_utf8(part),
-        Rule::Blob => true,
+    match kind {
+        StringKind::Text => utf8::is_utf8(part),
+        StringKind::Blob => true,
     }
 }
 
-// A string by its rule.
-fn string_at(call: &[u8], at: Place, limit: usize, rule: Rule) -> TextRead
-    ensures { λ r. ⌜ Reads (now (call .entry)) at (stringBy rule limit) (part (now (call .entry)) (r .text)) (r .next) × within (now (call .entry)) limit (r .text) ⌝ }
+// A string by its kind.
+fn string_at(call: &[u8], at: Cursor, limit: usize, kind: StringKind) -> TextRead
+    ensures { λ r. ⌜ Reads (now (call .entry)) at (stringBy kind limit) (part (now (call .entry)) (r .text)) (r .next) × within (now (call .entry)) limit (r .text) ⌝ }
 {
     let b = blob_at(call, at, limit);
     let p = b.text;
     let next = b.next;
     TextRead {
         text: p,
-        next: refuse_unless(next, obeys(part_of(call, p), rule), 27),
+        next: refuse_unless(next, obeys(part_of(call, p), kind), 27),
     }
 }
 
 // A string in UTF-8.
-pub fn text_at(call: &[u8], at: Place, limit: usize) -> TextRead
+pub fn text_at(call: &[u8], at: Cursor, limit: usize) -> TextRead
     ensures { λ r. ⌜ Reads (now (call .entry)) at (text limit) (part (now (call .entry)) (r .text)) (r .next) × within (now (call .entry)) limit (r .text) ⌝ }
 {
-    string_at(call, at, limit, Rule::Text)
+    string_at(call, at, limit, StringKind::Text)
 }
 
 // An optional string: byte 0, or byte 1 and the string.
-pub fn option_at(call: &[u8], at: Place, limit: usize, rule: Rule) -> OptRead
-    ensures { λ r. ⌜ Reads (now (call .entry)) at (optional (stringBy rule limit)) (optPart (now (call .entry)) (r .text)) (r .next) × optWithin (now (call .entry)) limit (r .text) ⌝ }
+pub fn option_at(call: &[u8], at: Cursor, limit: usize, kind: StringKind) -> OptRead
+    ensures { λ r. ⌜ Reads (now (call .entry)) at (optional (stringBy kind limit)) (optPart (now (call .entry)) (r .text)) (r .next) × optWithin (now (call .entry)) limit (r .text) ⌝ }
 {
     let b = choice_at(call, at, 0, 1);
     let next = b.next;
@@ -202,7 +202,7 @@ pub fn option_at(call: &[u8], at: Place, limit: usize, rule: Rule) -> OptRead
             next: next,
         };
     }
-    let t = string_at(call, next, limit, rule);
+    let t = string_at(call, next, limit, kind);
     let p = t.text;
     let end = t.next;
     OptRead {
@@ -212,7 +212,7 @@ pub fn option_at(call: &[u8], at: Place, limit: usize, rule: Rule) -> OptRead
 }
 
 // The cause that a part of the call is, which starts at a place: its bytes are handed on.
-fn read_cause(lent: &[u8], at: usize, next: Place) -> CauseRead
+fn read_cause(lent: &[u8], at: usize, next: Cursor) -> CauseRead
     requires { ⌜ at + length (now lent) < 2 ^ 64 ⌝ }
     ensures { λ r. ⌜ IsCause (now (lent .entry)) at next r ⌝ }
 {
@@ -233,7 +233,7 @@ fn read_cause(lent: &[u8], at: usize, next: Place) -> CauseRead
 }
 
 // A cause: a string in UTF-8, and the cause that it is.
-pub fn cause_at(call: &[u8], at: Place) -> CauseRead
+pub fn cause_at(call: &[u8], at: Cursor) -> CauseRead
     ensures { λ r. ⌜ Reads (now (call .entry)) at causeText (causePart (now (call .entry)) (r .cause)) (r .next) × causeWithin (now (call .entry)) (r .cause) ⌝ }
 {
     let t = text_at(call, at, Record::CAUSE);

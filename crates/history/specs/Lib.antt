@@ -1,7 +1,7 @@
 pub mod Meaning
 pub mod Walk
 pub mod DoesLaws
-pub mod HeldLaws
+pub mod FoundLaws
 pub mod WalkLaws
 pub mod CountLaws
 pub mod FileLaws

@@ -13,13 +13,13 @@ ghost use Rattle.octets.specs.Put.{Put};
 ghost use Rattle.definition.specs.Limits.{shortLimit, regionLimit};
 ghost use Rattle.definition.specs.Key.{string, optional, decimal, fedObject, fedPlaces, fed, keyOf, hexDigit, hex};
 ghost use Rattle.model.specs.Meaning.{part, optPart, objectValue, placesValue, keyValue, within, optWithin, objectWithin, PlacesWithin, KeyWithin};
-ghost use Rattle.key.specs.Room.{room};
+ghost use Rattle.key.specs.HashedWidth.{hashedWidth};
 
 // ---- strings and options, encoded as in a call, put into the buffer of what is hashed
 
 // A part of the call.
 fn put_part(buf: &mut [u8], at: usize, call: &[u8], p: Span) -> usize
-    requires { ⌜ (length (now buf) ≡ room) × (at + (4 + regionLimit) ≤ room) × within (now call) regionLimit p ⌝ }
+    requires { ⌜ (length (now buf) ≡ hashedWidth) × (at + (4 + regionLimit) ≤ hashedWidth) × within (now call) regionLimit p ⌝ }
     ensures { λ r. ⌜ Put (now (buf .entry)) at (string (part (now (call .entry)) p)) r (now (buf .exit)) ⌝ }
 {
     let a = p.at;
@@ -28,7 +28,7 @@ fn put_part(buf: &mut [u8], at: usize, call: &[u8], p: Span) -> usize
 }
 
 fn put_option(buf: &mut [u8], at: usize, call: &[u8], p: OptSpan) -> usize
-    requires { ⌜ (length (now buf) ≡ room) × (at + (5 + regionLimit) ≤ room) × optWithin (now call) regionLimit p ⌝ }
+    requires { ⌜ (length (now buf) ≡ hashedWidth) × (at + (5 + regionLimit) ≤ hashedWidth) × optWithin (now call) regionLimit p ⌝ }
     ensures { λ r. ⌜ Put (now (buf .entry)) at (optional (optPart (now (call .entry)) p)) r (now (buf .exit)) ⌝ }
 {
     let a = at + 1;
@@ -65,7 +65,7 @@ fn unwritten(q: u16) -> usize
 
 // The queue, in decimal digits.
 fn put_queue(buf: &mut [u8], at: usize, q: u16) -> usize
-    requires { ⌜ (length (now buf) ≡ room) × (at + 9 ≤ room) ⌝ }
+    requires { ⌜ (length (now buf) ≡ hashedWidth) × (at + 9 ≤ hashedWidth) ⌝ }
     ensures { λ r. ⌜ Put (now (buf .entry)) at (string (decimal q)) r (now (buf .exit)) ⌝ }
 {
     let digits = [
@@ -81,7 +81,7 @@ fn put_queue(buf: &mut [u8], at: usize, q: u16) -> usize
 
 // A kind's tag and its one string.
 fn put_single(buf: &mut [u8], at: usize, tag: &[u8], call: &[u8], a: Span) -> usize
-    requires { ⌜ (length (now buf) ≡ room) × (at ≤ 168) × (length (now tag) ≤ 14) × within (now call) shortLimit a ⌝ }
+    requires { ⌜ (length (now buf) ≡ hashedWidth) × (at ≤ 168) × (length (now tag) ≤ 14) × within (now call) shortLimit a ⌝ }
     ensures { λ r. ⌜ Put (now (buf .entry)) at (string (now (tag .entry)) ++ string (part (now (call .entry)) a)) r (now (buf .exit)) ⌝ }
 {
     let n = strings::put_string(buf, at, tag);
@@ -90,7 +90,7 @@ fn put_single(buf: &mut [u8], at: usize, tag: &[u8], call: &[u8], a: Span) -> us
 
 // A kind's tag and its two strings.
 fn put_pair(buf: &mut [u8], at: usize, tag: &[u8], call: &[u8], a: Span, b: Span) -> usize
-    requires { ⌜ (length (now buf) ≡ room) × (at ≤ 168) × (length (now tag) ≤ 14) × within (now call) shortLimit a × within (now call) shortLimit b ⌝ }
+    requires { ⌜ (length (now buf) ≡ hashedWidth) × (at ≤ 168) × (length (now tag) ≤ 14) × within (now call) shortLimit a × within (now call) shortLimit b ⌝ }
     ensures { λ r. ⌜ Put (now (buf .entry)) at (string (now (tag .entry)) ++ string (part (now (call .entry)) a) ++ string (part (now (call .entry)) b)) r (now (buf .exit)) ⌝ }
 {
     let n = put_single(buf, at, tag, call, a);
@@ -98,7 +98,7 @@ fn put_pair(buf: &mut [u8], at: usize, tag: &[u8], call: &[u8], a: Span, b: Span
 }
 
 fn put_object(buf: &mut [u8], at: usize, call: &[u8], o: AffectedObject) -> usize
-    requires { ⌜ (length (now buf) ≡ room) × (at ≤ 168) × objectWithin (now call) o ⌝ }
+    requires { ⌜ (length (now buf) ≡ hashedWidth) × (at ≤ 168) × objectWithin (now call) o ⌝ }
     ensures { λ r. ⌜ Put (now (buf .entry)) at (fedObject (objectValue (now (call .entry)) o)) r (now (buf .exit)) ⌝ }
 {
     match o {
@@ -133,7 +133,7 @@ fn put_object(buf: &mut [u8], at: usize, call: &[u8], o: AffectedObject) -> usiz
 // ---- tenant, slice and region, behind an object, which takes 163 bytes at most
 
 fn put_places(buf: &mut [u8], at: usize, call: &[u8], p: Places) -> usize
-    requires { ⌜ (length (now buf) ≡ room) × (at ≤ 331) × PlacesWithin (now call) p ⌝ }
+    requires { ⌜ (length (now buf) ≡ hashedWidth) × (at ≤ 331) × PlacesWithin (now call) p ⌝ }
     ensures { λ r. ⌜ Put (now (buf .entry)) at (fedPlaces (placesValue (now (call .entry)) p)) r (now (buf .exit)) ⌝ }
 {
     let tenant = p.tenant;
@@ -148,7 +148,7 @@ fn put_places(buf: &mut [u8], at: usize, call: &[u8], p: Places) -> usize
 
 // All that is hashed goes to the beginning of the buffer.
 fn feed(buf: &mut [u8], call: &[u8], kind: Span, k: KeyFields) -> usize
-    requires { ⌜ (length (now buf) ≡ room) × within (now call) shortLimit kind × KeyWithin (now call) k ⌝ }
+    requires { ⌜ (length (now buf) ≡ hashedWidth) × within (now call) shortLimit kind × KeyWithin (now call) k ⌝ }
     ensures { λ r. ⌜ Put (now (buf .entry)) 0 (fed (part (now (call .entry)) kind) (keyValue (now (call .entry)) k)) r (now (buf .exit)) ⌝ }
 {
     let cause = k.cause;

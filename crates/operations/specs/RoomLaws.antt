@@ -10,7 +10,7 @@ use Rattle.definition.specs.Steps.{raise, clear, plain, policy, expire}
 use Rattle.definition.specs.Reports.{summary}
 use Rattle.definition.specs.Perform.{inRecord, perform}
 use Rattle.definition.specs.Sound.{station}
-use Rattle.definition.specs.Laws.Steps.Does.{Refuses}
+use Rattle.definition.specs.Contracts.Does.{Refuses}
 use Rattle.reply.specs.declared.Reply.{Reply}
 use Rattle.reply.specs.Meaning.{Replies}
 use Rattle.reply.specs.ReplyLaws.{replies-at}

@@ -4,12 +4,12 @@ use mathlib.Core.Option.{none}
 use lib.ListN.{length}
 use Rattle.octets.specs.Bytes.{Bytes}
 use Rattle.definition.specs.Value.{RaiseValue}
-use Rattle.definition.specs.Laws.Steps.Fields.{LegalRaise}
+use Rattle.definition.specs.Contracts.LegalFields.{LegalRaise}
 use Rattle.definition.specs.Station.{Step}
 use Rattle.definition.specs.Answer.{Answer, Updated}
 use Rattle.definition.specs.Steps.{change, updatedBy, raiseAt}
-use Rattle.raise.specs.declared.Raise.{Raise}
-use Rattle.raise.specs.Meaning.{raiseValue, RaiseWithin}
+use Rattle.raise_fields.specs.declared.Raise.{Raise}
+use Rattle.raise_fields.specs.Meaning.{raiseValue, RaiseWithin}
 use Rattle.history.specs.Meaning.{Newest}
 use Rattle.history.specs.Walk.{alarmAt}
 

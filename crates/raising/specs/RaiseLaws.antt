@@ -14,19 +14,19 @@ use Rattle.definition.specs.Value.{RaiseValue}
 use Rattle.definition.specs.Key.{keyOf}
 use Rattle.definition.specs.Chain.{Entry, present, first}
 use Rattle.definition.specs.Alarm.{Alarm, hasKey, hasId}
-use Rattle.definition.specs.Laws.Steps.Fields.{LegalRaise}
-use Rattle.definition.specs.Laws.Steps.Change.{updated-legal, new-legal}
+use Rattle.definition.specs.Contracts.LegalFields.{LegalRaise}
+use Rattle.definition.specs.Laws.Steps.ChangedLegal.{updated-legal, new-legal}
 use Rattle.definition.specs.Record.{lastActive, alarmBytes, readAlarm}
 use Rattle.definition.specs.Book.{recordOf}
 use Rattle.definition.specs.Station.{_>>=_, refuse}
 use Rattle.definition.specs.Steps.{change, updatedBy, newAlarm, store, storeNew, limitExceeded, raiseAt, raise}
 use Rattle.definition.specs.Answer.{Raised, Updated, ActiveLimitExceeded, head, headBytes, answerBytes}
 use Rattle.definition.specs.Sound.{station, sound}
-use Rattle.definition.specs.Laws.Steps.Does.{Does, Answers, Refuses}
+use Rattle.definition.specs.Contracts.Does.{Does, Answers, Refuses}
 use Rattle.history.specs.Meaning.{IsAlarm, OnActive, Changes}
 use Rattle.history.specs.Walk.{alarmAt}
 use Rattle.history.specs.DoesLaws.{does-then, does-look, does-yes, does-no}
-use Rattle.history.specs.HeldLaws.{Held, alarm-payload, payload-as, changed-payload}
+use Rattle.history.specs.FoundLaws.{FoundAt, alarm-payload, payload-as, changed-payload}
 use Rattle.answers.specs.AnswerLaws.{alarm-as, answers-put}
 use Rattle.changes.specs.Meaning.{updatedWith, newsIn, updated-with}
 use Rattle.reply.specs.declared.Reply.{Reply}
@@ -95,10 +95,10 @@ module _ (c : RaiseValue) (k : Bytes) (e : k ≡ keyOf (c .head .type) (c .key))
   abbrev theKey : Bytes
   theKey = keyOf (c .head .type) (c .key)
 
-  pub raise-found : (i p n : ℕ) → Held (hasKey k) b i p → Answers (updatesAt b i c) b b′ a a′ n → Replies (Answered n) (raise c) b b′ a a′
+  pub raise-found : (i p n : ℕ) → FoundAt (hasKey k) b i p → Answers (updatesAt b i c) b b′ a a′ n → Replies (Answered n) (raise c) b b′ a a′
   unfolding raise raiseAt _>>=_
   raise-found i p n held w =
-      let f = subst (λ (z : Bytes). Held (hasKey z) b i p) e held in
+      let f = subst (λ (z : Bytes). FoundAt (hasKey z) b i p) e held in
       replies-at (Answered n) (updatesAt b i c) (raise c) b b′ a a′ (rw (f .found)) w
 
   pub raise-none : (y : Reply) → first (hasKey k) (station b .active) ≡ none → Replies y (raisesNew c k) b b′ a a′ → Replies y (raise c) b b′ a a′

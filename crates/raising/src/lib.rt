@@ -7,16 +7,16 @@ ghost use Rattle.definition.specs.Alarm.{hasId};
 ghost use Rattle.definition.specs.Limits.{shortLimit};
 ghost use Rattle.definition.specs.Sound.{station, sound};
 ghost use Rattle.definition.specs.Steps as S;
-ghost use Rattle.definition.specs.Laws.Steps.Does.{Answers};
+ghost use Rattle.definition.specs.Contracts.Does.{Answers};
 ghost use Rattle.model.specs.Meaning.{part, within};
-ghost use Rattle.raise.specs.Meaning.{raiseValue};
-ghost use Rattle.history.specs.Meaning.{OnActive, Room};
+ghost use Rattle.raise_fields.specs.Meaning.{raiseValue};
+ghost use Rattle.history.specs.Meaning.{OnActive, ActiveRoom};
 ghost use Rattle.reply.specs.Meaning.{Replies};
 ghost use Rattle.raising.specs.Meaning.{Ready, updatesAt, raisesNew};
 use changes::News;
 use model::Record;
 use model::Span;
-use raise::Raise;
+use raise_fields::Raise;
 use register::ACTIVE;
 use register::Found;
 use reply::Reply;
@@ -72,7 +72,7 @@ fn insert(
     key: &[u8],
     answer: &mut [u8],
 ) -> Reply
-    requires { ⌜ Ready (now register) last (now call) r (now answer) × Room (now register) end × (length (now key) ≡ 16) ⌝ }
+    requires { ⌜ Ready (now register) last (now call) r (now answer) × ActiveRoom (now register) end × (length (now key) ≡ 16) ⌝ }
     ensures { λ y.
         ⌜ Replies
         y

@@ -6,7 +6,7 @@ use Rattle.octets.specs.Bytes.{Bytes, splice}
 use Rattle.definition.specs.Alarm.{Alarm}
 use Rattle.definition.specs.Laws.Record.Join.{offset}
 use Rattle.definition.specs.Laws.Record.Record.{alarmWidths, alarmPieces}
-use Rattle.definition.specs.Laws.Record.Write.{slot-law}
+use Rattle.definition.specs.Laws.Record.ChangedSlot.{slot-law}
 use Rattle.record.specs.Change.{Becomes}
 
 -- slot k; the last argument is `λ a. refl` for each field

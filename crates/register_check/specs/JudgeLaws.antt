@@ -10,20 +10,20 @@ use Rattle.octets.specs.BlankLaws.{blank→zeros, blank-zeros}
 use Rattle.octets.specs.PartLaws.{part-length}
 use Rattle.octets.specs.BoolLaws.{both, both-left, both-right, holds, fails, true-holds}
 use Rattle.definition.specs.Book.{capacity, every, soundBook, readBook}
-use Rattle.definition.specs.Laws.Book.Legal as L
-use Rattle.definition.specs.Laws.Book.Soundness.{chain-read, check-sound}
-use Rattle.definition.specs.Laws.Book.Complete.{sound-checked}
-use Rattle.definition.specs.Laws.Book.Reflect.{zeroed-to, zeroed-from, sound-to, sound-from}
-use Rattle.definition.specs.Laws.Book.Judge.{chained-decides}
+use Rattle.definition.specs.Contracts.LegalBook as L
+use Rattle.definition.specs.Laws.Book.CheckSound.{chain-read, check-sound}
+use Rattle.definition.specs.Laws.Book.CheckComplete.{sound-checked}
+use Rattle.definition.specs.Laws.Book.BookTests.{zeroed-to, zeroed-from, sound-to, sound-from}
+use Rattle.definition.specs.Laws.Book.CheckParts.{chained-decides}
 use Rattle.definition.specs.Sound.{activeSound, historySound, auditSound, soundRecords, sound}
 use Rattle.definition.specs.Chain.{lastOf}
-use Rattle.definition.specs.Laws.Book.Check.{Leads, Chained, Checked, Decides, Apart}
-use Rattle.definition.specs.Laws.Book.Legal.{chain}
+use Rattle.definition.specs.Contracts.Check.{Leads, Chained, PassesCheck, Decides, Apart}
+use Rattle.definition.specs.Contracts.LegalBook.{chain}
 use Rattle.register_check.specs.Meaning.{EndsAt, Chain, Headed, Heads, passes, number}
 use Rattle.register_check.specs.declared.Kind.{Kind}
 use Rattle.register_check.specs.declared.Kind.the-variants.{Active, History, Audit, Free}
-use Rattle.register_check.specs.declared.Head.{Head}
-use Rattle.register_check.specs.declared.Head.the-variants.{Wrong}
+use Rattle.register_check.specs.declared.Header.{Header}
+use Rattle.register_check.specs.declared.Header.the-variants.{Wrong}
 use Rattle.register_check.specs.declared.Walked.{Walked}
 use Rattle.register_check.specs.declared.Walked.the-variants.{End, Broken}
 
@@ -41,8 +41,8 @@ tail-decides b true h e =
     blank→zeros _ (subst (λ (x : Bool). T x) e tt) ∙ ap zeros (part-length b 60 1476 (omega arith))
 tail-decides b false h e = λ z. subst (λ (x : Bool). T x) (sym (blank-zeros 1476) ∙ ap blank (sym z) ∙ sym e) tt
 
-pub found : (b : Bytes) {h g : Head} → h ≡ g → Heads h b → Heads g b
-found b e p = subst (λ (x : Head). Heads x b) e p
+pub found : (b : Bytes) {h g : Header} → h ≡ g → Heads h b → Heads g b
+found b e p = subst (λ (x : Header). Heads x b) e p
 
 -- ---- the last records
 
@@ -68,7 +68,7 @@ module _ (b : Bytes) (s : T (sound b)) where
   unfolding sound
   book = sound-to b (both-left (soundBook b) (soundRecords (readBook b)) s)
 
-  checked : Checked b
+  checked : PassesCheck b
   checked = sound-checked b book
 
   payloads : (k : Kind) → T (every (passes k) (chain (number k) (readBook b)))

@@ -8,15 +8,15 @@ use Rattle.definition.specs.Record.{lastActive, lastState, soundAlarm, soundEve
 use Rattle.definition.specs.Book.{Record, payloadWidth, capacity, walk, every, readBook}
 use Rattle.definition.specs.Sound.{sound}
 use Rattle.definition.specs.Chain.{lastOf}
-use Rattle.definition.specs.Laws.Book.Check.{Leads, Numbers}
-use Rattle.definition.specs.Laws.Book.Legal.{chain}
-use Rattle.register_check.specs.declared.Checked.{Checked}
-use Rattle.register_check.specs.declared.Checked.the-variants.{Sound, Unsound}
+use Rattle.definition.specs.Contracts.Check.{Leads, Numbers}
+use Rattle.definition.specs.Contracts.LegalBook.{chain}
+use Rattle.register_check.specs.declared.Soundness.{Soundness}
+use Rattle.register_check.specs.declared.Soundness.the-variants.{Sound, Unsound}
 use Rattle.register_check.specs.declared.Lasts.{Lasts}
 use Rattle.register_check.specs.declared.Kind.{Kind}
 use Rattle.register_check.specs.declared.Kind.the-variants.{Active, History, Audit, Free}
-use Rattle.register_check.specs.declared.Head.{Head}
-use Rattle.register_check.specs.declared.Head.the-variants.{Capacity, Wrong}
+use Rattle.register_check.specs.declared.Header.{Header}
+use Rattle.register_check.specs.declared.Header.the-variants.{Capacity, Wrong}
 use Rattle.register_check.specs.declared.Walked.{Walked}
 use Rattle.register_check.specs.declared.Walked.the-variants.{End, Broken}
 
@@ -29,7 +29,7 @@ pub record EndsAt (l : Lasts) (b : Bytes) : Type 0 where
   pub audit : l .audit ≡ lastOf (chain 2 (readBook b))
 
 -- an answer is right: the bytes are sound, and their chains end there; or they are not, "22"
-abbrev pub Gives : Checked → Bytes → Type 0
+abbrev pub Gives : Soundness → Bytes → Type 0
 Gives (Sound l) b = (sound b ≡ true) × EndsAt l b
 Gives Unsound b = sound b ≡ false
 
@@ -74,6 +74,6 @@ pub record Headed (b : Bytes) (m : ℕ) : Type 0 where
   pub tail : take 1476 (drop 60 b) ≡ zeros 1476
 
 -- the header's room; or no room makes it right
-abbrev pub Heads : Head → Bytes → Type 0
+abbrev pub Heads : Header → Bytes → Type 0
 Heads (Capacity m) b = Headed b m
 Heads Wrong b = (m : ℕ) → Headed b m → ⊥

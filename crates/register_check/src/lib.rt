@@ -4,8 +4,8 @@ ghost use Prim.Native.Nat.{_+_, _*_, _≤_};
 ghost use lib.ListN.{length};
 ghost use Rattle.definition.specs.Limits.{recordWidth};
 ghost use Rattle.definition.specs.Book.{payloadWidth};
-ghost use Rattle.definition.specs.Laws.Book.Legal.{Limit};
-ghost use Rattle.definition.specs.Laws.Book.Check.{Decides, Counts, Apart};
+ghost use Rattle.definition.specs.Contracts.LegalBook.{Limit};
+ghost use Rattle.definition.specs.Contracts.Check.{Decides, Counts, Apart};
 ghost use Rattle.record_check.specs.Ruler.{rulerBytes};
 ghost use Rattle.register_check.specs.Meaning.{Chain, Gives, Headed, Heads, Linked, Walks, holds, number};
 use model::Record;
@@ -23,7 +23,7 @@ pub struct Lasts {
     pub audit: u32,
 }
 
-pub enum Checked {
+pub enum Soundness {
     Sound(Lasts),
     Unsound,
 }
@@ -36,7 +36,7 @@ enum Kind {
 }
 
 // How many records a register's header has room for, if the header is as it should be.
-enum Head {
+enum Header {
     Capacity(u32),
     Wrong,
 }
@@ -184,29 +184,29 @@ fn counts_ok(register: &[u8], a: u32, h: u32, e: u32) -> bool
 }
 
 // The header's numbers, the register's length, and zeros behind the numbers.
-fn header(register: &[u8]) -> Head
+fn header(register: &[u8]) -> Header
     ensures { λ r. ⌜ Heads r (now (register .entry)) ⌝ }
 {
     if register.len() < Record::WIDTH {
-        return Head::Wrong;
+        return Header::Wrong;
     }
     let a = octets::get32(register, 0);
     let h = octets::get32(register, 4);
     let e = octets::get32(register, 8);
     if !limits_ok(a, h, e) {
-        return Head::Wrong;
+        return Header::Wrong;
     }
     if !counts_ok(register, a, h, e) {
-        return Head::Wrong;
+        return Header::Wrong;
     }
     let capacity = a + h + e;
     if register.len() != Record::WIDTH * (capacity as usize + 1) {
-        return Head::Wrong;
+        return Header::Wrong;
     }
     if !octets::is_blank(&register[60..Record::WIDTH]) {
-        return Head::Wrong;
+        return Header::Wrong;
     }
-    Head::Capacity(capacity)
+    Header::Capacity(capacity)
 }
 
 // ---- the register
@@ -232,30 +232,30 @@ fn apart(p: u32, q: u32, r: u32, t: u32) -> bool
 }
 
 // The four chains of a register whose header is as it should be.
-fn chains(register: &[u8], capacity: u32, ruler: &[u8]) -> Checked
+fn chains(register: &[u8], capacity: u32, ruler: &[u8]) -> Soundness
     requires { ⌜ Headed (now register) capacity × (now ruler ≡ rulerBytes) ⌝ }
     ensures { λ r. ⌜ Gives r (now (register .entry)) ⌝ }
 {
     let active = chain(register, capacity, Kind::Active, ruler);
     let Walked::End(a) = active else {
-        return Checked::Unsound;
+        return Soundness::Unsound;
     };
     let history = chain(register, capacity, Kind::History, ruler);
     let Walked::End(h) = history else {
-        return Checked::Unsound;
+        return Soundness::Unsound;
     };
     let audit = chain(register, capacity, Kind::Audit, ruler);
     let Walked::End(e) = audit else {
-        return Checked::Unsound;
+        return Soundness::Unsound;
     };
     let free = chain(register, capacity, Kind::Free, ruler);
     let Walked::End(f) = free else {
-        return Checked::Unsound;
+        return Soundness::Unsound;
     };
     if !apart(a, h, e, f) {
-        return Checked::Unsound;
+        return Soundness::Unsound;
     }
-    Checked::Sound(Lasts {
+    Soundness::Sound(Lasts {
         active: a,
         history: h,
         audit: e,
@@ -263,12 +263,12 @@ fn chains(register: &[u8], capacity: u32, ruler: &[u8]) -> Checked
 }
 
 // Whether bytes are a sound register, and where its chains end.
-pub fn check(register: &[u8]) -> Checked
+pub fn check(register: &[u8]) -> Soundness
     ensures { λ r. ⌜ Gives r (now (register .entry)) ⌝ }
 {
     let found = header(register);
-    let Head::Capacity(capacity) = found else {
-        return Checked::Unsound;
+    let Header::Capacity(capacity) = found else {
+        return Soundness::Unsound;
     };
     let mut ruler = [255u8; RULER];
     octets::put_bytes(&mut ruler, 0, &[HIGH; Record::DETAILS]);

@@ -2,7 +2,7 @@
 // bytes, these bytes, and orders of three numbers. It and the expected output are made by `python3 tests/register/make.py`.
 use libc::STDIN_FILENO;
 use libc::STDOUT_FILENO;
-use register_check::Checked;
+use register_check::Soundness;
 
 fn number(n: u32) {
     io::write_all(STDOUT_FILENO, b" ");
@@ -15,7 +15,7 @@ fn report(work: &[u8], n: usize) {
         return;
     }
     let found = register_check::check(&work[0..n]);
-    let Checked::Sound(l) = found else {
+    let Soundness::Sound(l) = found else {
         io::write_all(STDOUT_FILENO, b"unsound\n");
         return;
     };
@@ -29,8 +29,8 @@ fn report(work: &[u8], n: usize) {
 // A verdict as one character.
 fn verdict(register: &[u8]) -> u8 {
     match register_check::check(register) {
-        Checked::Sound(_) => b's',
-        Checked::Unsound => b'-',
+        Soundness::Sound(_) => b's',
+        Soundness::Unsound => b'-',
     }
 }
 

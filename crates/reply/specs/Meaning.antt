@@ -2,7 +2,7 @@
 use Rattle.octets.specs.Bytes.{Bytes}
 use Rattle.definition.specs.Station.{Step}
 use Rattle.definition.specs.Answer.{Answer}
-use Rattle.definition.specs.Laws.Steps.Does.{Answers, Refuses}
+use Rattle.definition.specs.Contracts.Does.{Answers, Refuses}
 use Rattle.reply.specs.declared.Reply.{Reply}
 use Rattle.reply.specs.declared.Reply.the-variants.{Answered, Refused}
 

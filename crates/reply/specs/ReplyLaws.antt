@@ -10,7 +10,7 @@ use Rattle.definition.specs.Station.{Station, done, Step, _>>=_}
 use Rattle.definition.specs.Answer.{Answer, answerBytes}
 use Rattle.definition.specs.Perform.{inLength}
 use Rattle.definition.specs.Sound.{station}
-use Rattle.definition.specs.Laws.Steps.Does.{Does, Answers, Refuses}
+use Rattle.definition.specs.Contracts.Does.{Does, Answers, Refuses}
 use Rattle.reply.specs.declared.Reply.{Reply}
 use Rattle.reply.specs.declared.Reply.the-variants.{Answered, Refused}
 use Rattle.reply.specs.Meaning.{Replies}

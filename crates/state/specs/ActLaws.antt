@@ -14,18 +14,18 @@ use Rattle.definition.specs.Chain.{entry, first}
 use Rattle.definition.specs.Alarm.{Alarm, hasId}
 use Rattle.definition.specs.Record.{lastActive, alarmBytes, readAlarm}
 use Rattle.definition.specs.Book.{recordOf}
-use Rattle.definition.specs.Laws.Steps.Fields.{Time}
-use Rattle.definition.specs.Laws.Steps.Change.{acted-legal}
+use Rattle.definition.specs.Contracts.LegalFields.{Time}
+use Rattle.definition.specs.Laws.Steps.ChangedLegal.{acted-legal}
 use Rattle.definition.specs.Station.{Step}
 use Rattle.definition.specs.Value.{Action, acknowledging, suppressing}
 use Rattle.definition.specs.Steps.{actionAnswer, notAuthorized, actedOn, act, plainAt, plain, change}
 use Rattle.definition.specs.Answer.{Answer, Unauthorized, NotFound, head, headOf, headBytes, body, alarmRecord, answerBytes}
 use Rattle.definition.specs.Sound.{station, sound}
-use Rattle.definition.specs.Laws.Steps.Does.{Does, Answers}
+use Rattle.definition.specs.Contracts.Does.{Does, Answers}
 use Rattle.history.specs.Meaning.{IsAlarm, OnActive, Changes}
 use Rattle.history.specs.Walk.{alarmAt}
 use Rattle.history.specs.DoesLaws.{does-then, does-give, does-look, does-yes, does-no}
-use Rattle.history.specs.HeldLaws.{Held, payload-as, changed-payload}
+use Rattle.history.specs.FoundLaws.{FoundAt, payload-as, changed-payload}
 use Rattle.answers.specs.AnswerLaws.{alarm-as, answer-as, answers-put}
 use Rattle.state.specs.Meaning.{plainOf, actionCode}
 
@@ -66,7 +66,7 @@ module _ (x : Action) (time : ℕ) (id : Bytes) (b b′ a a′ : Bytes) (n : ℕ
   unauthorised f z e w = answers-put (rw e (does-yes (eqb f 0) _ _ (eq-eqb f 0 z) (does-give b (Unauthorized (notAuthorized x)) h))) w
 
   module _ (f : ℕ) (yes-flag : 1 ≤ f) where
-    pub on-found : (i p : ℕ) → Held (hasId id) b i p → Answers (act x time (entry i (alarmAt b i))) b b′ a a′ n → Answers (plain x (plainOf time id f)) b b′ a a′ n
+    pub on-found : (i p : ℕ) → FoundAt (hasId id) b i p → Answers (act x time (entry i (alarmAt b i))) b b′ a a′ n → Answers (plain x (plainOf time id f)) b b′ a a′ n
     unfolding plain plainAt
     on-found i p held w = record {
       value = w .value;

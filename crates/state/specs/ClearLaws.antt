@@ -15,16 +15,16 @@ use Rattle.definition.specs.Alarm.{Alarm, hasKey}
 use Rattle.definition.specs.Record.{lastActive, lastState, alarmBytes, readAlarm}
 use Rattle.definition.specs.Book.{recordOf}
 use Rattle.definition.specs.Limits.{shortLimit}
-use Rattle.definition.specs.Laws.Steps.Fields.{Time}
-use Rattle.definition.specs.Laws.Steps.Change.{cleared-legal}
+use Rattle.definition.specs.Contracts.LegalFields.{Time}
+use Rattle.definition.specs.Laws.Steps.ChangedLegal.{cleared-legal}
 use Rattle.definition.specs.Steps.{clearedBy, clearAt, clear, retire}
 use Rattle.definition.specs.Answer.{Cleared, ClearWithoutActive, head, headBytes, answerBytes}
 use Rattle.definition.specs.Sound.{station, sound}
-use Rattle.definition.specs.Laws.Steps.Does.{Does, Answers}
+use Rattle.definition.specs.Contracts.Does.{Does, Answers}
 use Rattle.history.specs.Meaning.{IsAlarm, OnActive, Files}
 use Rattle.history.specs.Walk.{alarmAt}
 use Rattle.history.specs.DoesLaws.{does-then, does-give, does-look}
-use Rattle.history.specs.HeldLaws.{Held, payload-legal, on-alarm, changed-payload}
+use Rattle.history.specs.FoundLaws.{FoundAt, payload-legal, on-alarm, changed-payload}
 use Rattle.answers.specs.AnswerLaws.{answer-as, answers-put}
 use Rattle.state.specs.Meaning.{clearOf, clearedAt}
 
@@ -51,10 +51,10 @@ module _ (b q p : Bytes) (i time : ℕ) (h : T (sound b)) (o : OnActive b i) (t 
 
 module _ (time : ℕ) (type : Bytes) (about : KeyValue) (k : Bytes) (e : k ≡ keyOf type about) (b : Bytes) (h : T (sound b)) (a a′ : Bytes) (n : ℕ) where
   pub clear-found :
-      (b′ : Bytes) (i p : ℕ) → Held (hasKey k) b i p → Answers (clearedAt time (entry i (alarmAt b i))) b b′ a a′ n → Answers (clear (clearOf time type about)) b b′ a a′ n
+      (b′ : Bytes) (i p : ℕ) → FoundAt (hasKey k) b i p → Answers (clearedAt time (entry i (alarmAt b i))) b b′ a a′ n → Answers (clear (clearOf time type about)) b b′ a a′ n
   unfolding clear clearAt
   clear-found b′ i p held w =
-      let f = subst (λ (z : Bytes). Held (hasKey z) b i p) e held in
+      let f = subst (λ (z : Bytes). FoundAt (hasKey z) b i p) e held in
       record {
         value = w .value;
         does = does-then (clearAt (clearOf time type about) (keyOf type about)) (does-look b _ h) (rw (f .found) (w .does));

@@ -7,7 +7,7 @@ use Rattle.definition.specs.Alarm.{Alarm}
 use Rattle.definition.specs.Station.{Step, _>>=_, give}
 use Rattle.definition.specs.Answer.{Answer, Cleared}
 use Rattle.definition.specs.Steps.{plain, clearedBy, retire}
-use Rattle.definition.specs.Laws.Steps.Does.{Answers}
+use Rattle.definition.specs.Contracts.Does.{Answers}
 
 abbrev pub plainOf : ℕ → Bytes → ℕ → PlainValue
 plainOf time id authorised = record { time = time; id = id; authorised = authorised }

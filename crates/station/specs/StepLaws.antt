@@ -14,10 +14,10 @@ use Rattle.definition.specs.Reports.{activeList, historyList, counts, takeAudit
 use Rattle.definition.specs.Perform.{inLength, perform}
 use Rattle.definition.specs.Sound.{station, sound}
 use Rattle.definition.specs.Laws.Steps.Chains.{active-last, history-last, audit-last}
-use Rattle.definition.specs.Laws.Steps.Reply.{answers-give, refuses-give}
+use Rattle.definition.specs.Laws.Steps.Replies.{answers-give, refuses-give}
 use Rattle.definition.specs.Lists.{stepOf, replyOf}
 use Rattle.definition.specs.Claim.{Stepped, Gives}
-use Rattle.definition.specs.Laws.Steps.Does.{Refuses}
+use Rattle.definition.specs.Contracts.Does.{Refuses}
 use Rattle.call.specs.declared.Parsed.{Parsed}
 use Rattle.call.specs.Meaning.{meaning}
 use Rattle.register_check.specs.declared.Lasts.{Lasts}

@@ -11,10 +11,10 @@ use Rattle.definition.specs.Parse.{parseCall}
 use Rattle.definition.specs.Station.{Outcome, done, stopped}
 use Rattle.definition.specs.Answer.{Answer}
 use Rattle.definition.specs.Perform.{perform}
-use Rattle.definition.specs.Laws.Twins.Kept.{Answered, perform-legal}
+use Rattle.definition.specs.Laws.Twins.KeptLegal.{Answered, perform-legal}
 use Rattle.definition.specs.Laws.Text.Parse.{call-legal}
 use Rattle.definition.specs.Sound.{station, sound}
-use Rattle.definition.specs.Laws.Steps.Sound.{sound-holds, legal-sound}
+use Rattle.definition.specs.Laws.Steps.SoundStation.{sound-holds, legal-sound}
 use Rattle.definition.specs.Opening.{opened, openOf}
 use Rattle.definition.specs.Lists.{replyOf, stepOf, run}
 use Rattle.definition.specs.Twins.{AtEach, TwinLists}

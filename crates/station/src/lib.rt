@@ -2,7 +2,7 @@
 ghost use mathlib.Core.Path.{_≡_};
 ghost use lib.ListN.{length as lengthOf};
 ghost use Rattle.octets.specs.Bytes.{splice};
-ghost use Rattle.definition.specs.Laws.Steps.Fields.{LegalCall};
+ghost use Rattle.definition.specs.Contracts.LegalFields.{LegalCall};
 ghost use Rattle.definition.specs.Perform.{perform as performed};
 ghost use Rattle.definition.specs.Opening.{openOf};
 ghost use Rattle.definition.specs.Lists.{stepOf};
@@ -14,8 +14,8 @@ ghost use Rattle.station.specs.Meaning.{numberIn, lengthIn};
 use call::Parsed;
 use changes::Action;
 use model::Record;
-use register_check::Checked;
 use register_check::Lasts;
+use register_check::Soundness;
 use reply::Reply;
 
 // A call that was read, on a sound register whose chains end with the records l.
@@ -59,8 +59,8 @@ fn perform(register: &mut [u8], l: Lasts, call: &[u8], parsed: Parsed, answer: &
             answer,
         ),
         Parsed::Expire(t) => operations::on_expire(register, l, t, answer),
-        Parsed::Active(v) => lists::active_list(register, v, answer),
-        Parsed::History { tenant, slice } => lists::history_list(
+        Parsed::Active(v) => alarm_lists::active_list(register, v, answer),
+        Parsed::History { tenant, slice } => alarm_lists::history_list(
             register,
             call,
             tenant,
@@ -87,8 +87,8 @@ fn step(register: &mut [u8], call: &[u8], answer: &mut [u8]) -> Reply
         (now (register .exit)) ⌝ }
 {
     match register_check::check(register) {
-        Checked::Sound(l) => perform(register, l, call, call::parse(call), answer),
-        Checked::Unsound => Reply::Refused(22),
+        Soundness::Sound(l) => perform(register, l, call, call::parse(call), answer),
+        Soundness::Unsound => Reply::Refused(22),
     }
 }
 

@@ -1,7 +1,7 @@
 -- A byte, and what it may be.
 use Rattle.definition.specs.Reader.{into}
 use Rattle.definition.specs.Parse.{severityOrAll}
-use Rattle.fields.specs.PlaceLaws.{done, step, tested}
+use Rattle.fields.specs.CursorLaws.{done, step, tested}
 use borrow.Author.Needs.{needs}
 use Rattle.call.proofs.active_at.Statement.{statement}
 use Rattle.call.proofs.active_at.Tie as tie

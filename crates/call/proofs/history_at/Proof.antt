@@ -1,6 +1,6 @@
 -- Tenant and slice.
 use Rattle.definition.specs.Parse.{historyFields}
-use Rattle.fields.specs.PlaceLaws.{done, step}
+use Rattle.fields.specs.CursorLaws.{done, step}
 use borrow.Author.Needs.{needs}
 use Rattle.call.proofs.history_at.Statement.{statement}
 use Rattle.call.proofs.history_at.Tie as tie

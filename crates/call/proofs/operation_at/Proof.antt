@@ -2,7 +2,7 @@
 use mathlib.Core.Bool.{false}
 use Rattle.definition.specs.Reader.{into}
 use Rattle.definition.specs.Parse.{fieldsOf}
-use Rattle.fields.specs.PlaceLaws.{done, step, tested}
+use Rattle.fields.specs.CursorLaws.{done, step, tested}
 use borrow.Author.Tests.{ne-eqb}
 use borrow.Author.Needs.{needs}
 use Rattle.call.proofs.operation_at.Statement.{statement}

@@ -1,6 +1,6 @@
 -- Time, id and a flag.
 use Rattle.definition.specs.Parse.{plainFields}
-use Rattle.fields.specs.PlaceLaws.{done, step}
+use Rattle.fields.specs.CursorLaws.{done, step}
 use borrow.Author.Needs.{needs}
 use Rattle.call.proofs.plain_at.Statement.{statement}
 use Rattle.call.proofs.plain_at.Tie as tie

@@ -4,6 +4,6 @@ pub mod Slot
 pub mod Object
 pub mod Scope
 pub mod Record
-pub mod Write
+pub mod ChangedSlot
 pub mod Identity
-pub mod Test
+pub mod FieldTests

@@ -4,6 +4,6 @@ pub mod White
 pub mod Trim
 pub mod Cause
 pub mod Key
-pub mod String
+pub mod PutString
 pub mod Parse
 pub mod Kind

@@ -1,9 +1,9 @@
 -- Twins stay twins, legal stations stay legal, and demand 3 holds.
 pub mod Blank
-pub mod Kept
-pub mod Twin
+pub mod KeptLegal
+pub mod TwinStations
 pub mod Mask
 pub mod MaskAnswer
-pub mod Read
+pub mod ReadTwins
 pub mod Claim
-pub mod Steps
+pub mod TwinSteps

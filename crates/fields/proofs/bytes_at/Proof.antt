@@ -1,6 +1,6 @@
 -- `bytes_at` meets its contract: a fault, no bytes asked for, too few left, or the bytes.
 use native.Mathlib.Omega.{arith}
-use Rattle.fields.specs.PlaceLaws.{stays}
+use Rattle.fields.specs.CursorLaws.{stays}
 use Rattle.fields.specs.BytesLaws.{none-read, short-read, bytes-read}
 use borrow.Author.Needs.{needs}
 use Rattle.fields.proofs.bytes_at.Statement.{statement}

@@ -3,7 +3,7 @@ use mathlib.Core.Path.{refl, ap, _∙_}
 use native.Mathlib.Omega.{arith}
 use lib.ListN.{length, drop, length-take}
 use Rattle.definition.specs.Reader.{causeText}
-use Rattle.fields.specs.PlaceLaws.{step}
+use Rattle.fields.specs.CursorLaws.{step}
 use borrow.Author.Needs.{needs}
 use Rattle.fields.proofs.cause_at.Statement.{statement}
 use Rattle.fields.proofs.cause_at.Tie as tie

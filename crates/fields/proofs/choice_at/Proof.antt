@@ -1,6 +1,6 @@
 -- `choice_at` meets its contract: a byte, and whether it is among its values.
 use Rattle.definition.specs.Reader.{choice}
-use Rattle.fields.specs.PlaceLaws.{done, step, tested}
+use Rattle.fields.specs.CursorLaws.{done, step, tested}
 use borrow.Author.Needs.{needs}
 use Rattle.fields.proofs.choice_at.Statement.{statement}
 use Rattle.fields.proofs.choice_at.Tie as tie

@@ -1,7 +1,7 @@
 -- `number_at` meets its contract: the bytes, and their value.
 use native.Mathlib.Nat.{le-trans}
 use Rattle.definition.specs.Reader.{number}
-use Rattle.fields.specs.PlaceLaws.{done, step}
+use Rattle.fields.specs.CursorLaws.{done, step}
 use Rattle.fields.specs.BytesLaws.{part-small, below-power}
 use borrow.Author.Needs.{needs}
 use Rattle.fields.proofs.number_at.Statement.{statement}

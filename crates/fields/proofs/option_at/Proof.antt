@@ -1,7 +1,7 @@
 -- `option_at` meets its contract: byte 0, or byte 1 and the string.
 use borrow.Author.Tests.{eq-eqb, ne-eqb}
 use Rattle.definition.specs.Reader.{optional}
-use Rattle.fields.specs.PlaceLaws.{done, step}
+use Rattle.fields.specs.CursorLaws.{done, step}
 use borrow.Author.Needs.{needs}
 use Rattle.fields.proofs.option_at.Statement.{statement}
 use Rattle.fields.proofs.option_at.Tie as tie

@@ -8,7 +8,7 @@ use Rattle.octets.specs.PartLaws.{part-part}
 use Rattle.definition.specs.Cause.{causeOf}
 use Rattle.cause.specs.Meaning.{causeValue, causeFits}
 use Rattle.cause.specs.declared.Cause.{Cause}
-use Rattle.fields.specs.PlaceLaws.{done, tested}
+use Rattle.fields.specs.CursorLaws.{done, tested}
 use borrow.Author.Needs.{needs}
 use Rattle.fields.proofs.read_cause.Statement.{statement}
 use Rattle.fields.proofs.read_cause.Tie as tie

@@ -1,5 +1,5 @@
 -- `refuse_unless` meets its contract: the test held, or it did not at a place or at a fault.
-use Rattle.fields.specs.Place.{checked}
+use Rattle.fields.specs.Cursor.{checked}
 use borrow.Author.Needs.{needs}
 use Rattle.fields.proofs.refuse_unless.Statement.{statement}
 use Rattle.fields.proofs.refuse_unless.Tie as tie

@@ -1,8 +1,8 @@
--- `feed` meets its contract: the fields stand one behind the other, each within its room.
+-- `feed` meets its contract: the fields stand one behind the other, each within its hashedWidth.
 use native.Mathlib.Omega.{arith}
 use Rattle.definition.specs.Key.{fed}
 use Rattle.octets.specs.PutLaws.{put-two}
-use Rattle.key.proofs.Room.{string-room, cause-room, object-room}
+use Rattle.key.proofs.HashedWidth.{string-room, cause-room, object-room}
 use borrow.Author.Needs.{needs}
 use Rattle.key.proofs.feed.Statement.{statement}
 use Rattle.key.proofs.feed.Tie as tie

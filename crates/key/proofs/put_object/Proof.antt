@@ -7,7 +7,7 @@ use Rattle.model.specs.Meaning.{part, optPart}
 use Rattle.octets.specs.PutLaws.{put-two, put-as}
 use Rattle.key.proofs.Fed.{single-fed, shard-fed, pair-fed, queue-fed}
 use Rattle.model.specs.CaseLaws.{object-case}
-use Rattle.key.proofs.Room.{single-room, pair-room, option-wider, fed-case}
+use Rattle.key.proofs.HashedWidth.{single-room, pair-room, option-wider, fed-case}
 use borrow.Author.Needs.{needs}
 use Rattle.key.proofs.put_object.Statement.{statement}
 use Rattle.key.proofs.put_object.Tie as tie

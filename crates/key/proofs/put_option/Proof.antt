@@ -2,7 +2,7 @@
 use mathlib.Core.Path.{refl}
 use Rattle.octets.specs.PutLaws.{put-two, put-as}
 use Rattle.model.specs.CaseLaws.{option-case}
-use Rattle.key.proofs.Room.{option-fed}
+use Rattle.key.proofs.HashedWidth.{option-fed}
 use borrow.Author.Needs.{needs}
 use Rattle.key.proofs.put_option.Statement.{statement}
 use Rattle.key.proofs.put_option.Tie as tie

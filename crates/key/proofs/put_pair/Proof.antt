@@ -1,7 +1,7 @@
 -- `put_pair` meets its contract: the second string stands behind tag and first string.
 use native.Mathlib.Omega.{arith}
 use Rattle.octets.specs.PutLaws.{put-two}
-use Rattle.key.proofs.Room.{single-room, wider}
+use Rattle.key.proofs.HashedWidth.{single-room, wider}
 use borrow.Author.Needs.{needs}
 use Rattle.key.proofs.put_pair.Statement.{statement}
 use Rattle.key.proofs.put_pair.Tie as tie

@@ -2,7 +2,7 @@
 use native.Mathlib.Omega.{arith}
 use Rattle.definition.specs.Key.{fedPlaces}
 use Rattle.octets.specs.PutLaws.{put-two}
-use Rattle.key.proofs.Room.{option-room, option-wider}
+use Rattle.key.proofs.HashedWidth.{option-room, option-wider}
 use borrow.Author.Needs.{needs}
 use Rattle.key.proofs.put_places.Statement.{statement}
 use Rattle.key.proofs.put_places.Tie as tie

@@ -2,7 +2,7 @@
 use native.Mathlib.Omega.{arith}
 use Rattle.definition.specs.Laws.Text.Key.{length-string}
 use Rattle.octets.specs.PutLaws.{put-two}
-use Rattle.key.proofs.Room.{wider}
+use Rattle.key.proofs.HashedWidth.{wider}
 use borrow.Author.Needs.{needs}
 use Rattle.key.proofs.put_single.Statement.{statement}
 use Rattle.key.proofs.put_single.Tie as tie

@@ -2,7 +2,7 @@
 use native.Mathlib.Omega.{arith}
 use borrow.Author.Needs.{needs}
 use denote.Ref.{now}
-use Rattle.raise.specs.Meaning.{clearValue}
+use Rattle.raise_fields.specs.Meaning.{clearValue}
 use Rattle.reply.specs.declared.Reply.the-variants.{Answered}
 use Rattle.operations.specs.RoomLaws.{no-room, room, clears}
 use Rattle.operations.proofs.on_clear.Statement.{statement}

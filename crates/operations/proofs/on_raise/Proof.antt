@@ -2,7 +2,7 @@
 use native.Mathlib.Omega.{arith}
 use borrow.Author.Needs.{needs}
 use denote.Ref.{now}
-use Rattle.raise.specs.Meaning.{raiseValue}
+use Rattle.raise_fields.specs.Meaning.{raiseValue}
 use Rattle.operations.specs.RoomLaws.{no-room, room, raises}
 use Rattle.operations.proofs.on_raise.Statement.{statement}
 use Rattle.operations.proofs.on_raise.Tie as tie

@@ -2,7 +2,7 @@
 use mathlib.Core.Path.{refl, sym, _∙_}
 use borrow.Author.Needs.{needs}
 use denote.Ref.{now}
-use Rattle.raise.specs.Meaning.{raiseValue}
+use Rattle.raise_fields.specs.Meaning.{raiseValue}
 use Rattle.raising.specs.RaiseLaws.{id-taken, new-payload, stores-new}
 use Rattle.raising.proofs.insert.Statement.{statement}
 use Rattle.raising.proofs.insert.Tie as tie

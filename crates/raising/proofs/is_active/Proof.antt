@@ -8,8 +8,8 @@ use Rattle.definition.specs.Chain.{present, first}
 use Rattle.definition.specs.Alarm.{hasId}
 use Rattle.definition.specs.Laws.Record.Slot.{part-lent}
 use Rattle.definition.specs.Sound.{station}
-use Rattle.definition.specs.Laws.Steps.Sound.{sound-holds}
-use Rattle.history.specs.HeldLaws.{found-held, not-found}
+use Rattle.definition.specs.Laws.Steps.SoundStation.{sound-holds}
+use Rattle.history.specs.FoundLaws.{found-held, not-found}
 use Rattle.raising.proofs.is_active.Statement.{statement}
 use Rattle.raising.proofs.is_active.Tie as tie
 

@@ -3,9 +3,9 @@ use mathlib.Core.Path.{sym, _∙_}
 use borrow.Author.Needs.{needs}
 use denote.Ref.{now}
 use Rattle.definition.specs.Alarm.{hasKey}
-use Rattle.definition.specs.Laws.Steps.Sound.{sound-holds}
-use Rattle.raise.specs.Meaning.{raiseValue}
-use Rattle.history.specs.HeldLaws.{Held, found-held, not-found}
+use Rattle.definition.specs.Laws.Steps.SoundStation.{sound-holds}
+use Rattle.raise_fields.specs.Meaning.{raiseValue}
+use Rattle.history.specs.FoundLaws.{FoundAt, found-held, not-found}
 use Rattle.raising.specs.RaiseLaws.{raise-found, raise-none}
 use Rattle.raising.proofs.raise.Statement.{statement}
 use Rattle.raising.proofs.raise.Tie as tie
@@ -18,7 +18,7 @@ held :
     (c : tie.After-i) →
     let k = c .before .before .before .before .before in
     let s = k .before .before .before .before .before in
-    Held (hasKey (k .key-of .result)) (now (s .args .register)) (c .i .given .0 .0) (c .i .given .0 .1 .0)
+    FoundAt (hasKey (k .key-of .result)) (now (s .args .register)) (c .i .given .0 .0) (c .i .given .0 .1 .0)
 held c =
     let f = c .before .before in
     let s = f .before .before .before .before .before .before .before .before in

@@ -4,8 +4,8 @@ use native.Mathlib.Omega.{arith}
 use borrow.Author.Needs.{needs}
 use denote.Ref.{now}
 use Rattle.definition.specs.Laws.Steps.Chains.{active-limit, active-length}
-use Rattle.history.specs.HeldLaws.{header-room}
-use Rattle.raise.specs.Meaning.{raiseValue}
+use Rattle.history.specs.FoundLaws.{header-room}
+use Rattle.raise_fields.specs.Meaning.{raiseValue}
 use Rattle.raising.specs.RaiseLaws.{limit-met, has-room}
 use Rattle.raising.proofs.raise_new.Statement.{statement}
 use Rattle.raising.proofs.raise_new.Tie as tie

@@ -1,7 +1,7 @@
 -- `update`: the payload is taken out, changed by the raise and put back.
 use borrow.Author.Needs.{needs}
 use denote.Ref.{now}
-use Rattle.raise.specs.Meaning.{raiseValue}
+use Rattle.raise_fields.specs.Meaning.{raiseValue}
 use Rattle.raising.specs.RaiseLaws.{updated-payload, updates}
 use Rattle.raising.proofs.update.Statement.{statement}
 use Rattle.raising.proofs.update.Tie as tie

@@ -2,7 +2,7 @@
 use native.Mathlib.Omega.{arith}
 use Rattle.octets.specs.SpliceLaws.{marked-splices}
 use Rattle.definition.specs.Slot.{stringBytes}
-use Rattle.definition.specs.Laws.Record.Write.{length-string}
+use Rattle.definition.specs.Laws.Record.ChangedSlot.{length-string}
 use borrow.Author.Needs.{needs}
 use Rattle.record.proofs.put_marked.Statement.{statement}
 use Rattle.record.proofs.put_marked.Tie as tie

@@ -4,7 +4,7 @@ use mathlib.Core.List.{_∷_}
 use mathlib.Core.Option.{some}
 use Prim.Native.Nat.{suc}
 use native.Mathlib.Omega.{arith}
-use Rattle.definition.specs.Laws.Record.Write.{length-string}
+use Rattle.definition.specs.Laws.Record.ChangedSlot.{length-string}
 use Rattle.definition.specs.Alarm.{withDetails}
 use Rattle.record.proofs.Writes.{becomes}
 use Rattle.definition.specs.Slot.{stringBytes}

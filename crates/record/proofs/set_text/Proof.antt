@@ -1,7 +1,7 @@
 -- The string's bytes are the field's slot.
 use mathlib.Core.Path.{refl}
 use native.Mathlib.Omega.{arith}
-use Rattle.definition.specs.Laws.Record.Write.{length-string}
+use Rattle.definition.specs.Laws.Record.ChangedSlot.{length-string}
 use Rattle.definition.specs.Alarm.{withText}
 use Rattle.record.proofs.Writes.{becomes}
 use Rattle.definition.specs.Slot.{stringBytes}

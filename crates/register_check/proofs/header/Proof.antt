@@ -5,9 +5,9 @@ use native.Mathlib.Omega.{arith}
 use borrow.Author.Tests.{not-true, not-false}
 use lib.ListN.{take, drop}
 use Rattle.octets.specs.Bytes.{zeros, at32}
-use Rattle.definition.specs.Laws.Book.Judge.{confirms, refutes, capacity-read, numbers-of, size-of}
-use Rattle.definition.specs.Laws.Book.Legal.{Limit}
-use Rattle.definition.specs.Laws.Book.Check.{Decides, Counts}
+use Rattle.definition.specs.Laws.Book.CheckParts.{confirms, refutes, capacity-read, numbers-of, size-of}
+use Rattle.definition.specs.Contracts.LegalBook.{Limit}
+use Rattle.definition.specs.Contracts.Check.{Decides, Counts}
 use Rattle.register_check.specs.JudgeLaws.{tail-decides}
 use borrow.Author.Needs.{needs}
 use Rattle.register_check.proofs.header.Statement.{statement}

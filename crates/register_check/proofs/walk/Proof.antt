@@ -3,7 +3,7 @@ use mathlib.Core.Path.{_∙_, sym}
 use borrow.Author.Tests.{not-true, not-false}
 use Prim.Native.Nat.{_-_}
 use borrow.Author.Needs.{needs}
-use Rattle.definition.specs.Laws.Book.Walk.{went-zero, went-past, went-stray}
+use Rattle.definition.specs.Laws.Book.LinkLoops.{went-zero, went-past, went-stray}
 use Rattle.register_check.specs.Meaning.{Linked, passes}
 use Rattle.register_check.specs.WalkLaws.{Tested, tested-start, tested-on, tested-not, tested-end, payload-of}
 use Rattle.register_check.proofs.walk.Statement.{statement}

@@ -3,8 +3,8 @@ use mathlib.Core.Path.{sym, _∙_}
 use borrow.Author.Needs.{needs}
 use denote.Ref.{now}
 use Rattle.definition.specs.Alarm.{hasKey}
-use Rattle.definition.specs.Laws.Steps.Sound.{sound-holds}
-use Rattle.history.specs.HeldLaws.{Held, found-held, not-found}
+use Rattle.definition.specs.Laws.Steps.SoundStation.{sound-holds}
+use Rattle.history.specs.FoundLaws.{FoundAt, found-held, not-found}
 use Rattle.state.specs.ClearLaws.{clear-found, clear-none}
 use Rattle.state.proofs.clear.Statement.{statement}
 use Rattle.state.proofs.clear.Tie as tie
@@ -16,7 +16,7 @@ find-key-requires c κs = sound-holds _ (c .before .before .before .before .befo
 held :
     (c : tie.After-i) →
     let s = c .before .before .before .before .before .before .before .before .before in
-    Held (hasKey (c .before .before .before .before .before .key-of .result)) (now (s .args .register)) (c .i .given .0 .0) (c .i .given .0 .1 .0)
+    FoundAt (hasKey (c .before .before .before .before .before .key-of .result)) (now (s .args .register)) (c .i .given .0 .0) (c .i .given .0 .1 .0)
 held c =
     let f = c .before .before in
     let s = f .before .before .before .before .before .before .before in

@@ -3,8 +3,8 @@ use mathlib.Core.Path.{refl, sym, _∙_}
 use borrow.Author.Needs.{needs}
 use denote.Ref.{now}
 use Rattle.definition.specs.Alarm.{hasId}
-use Rattle.definition.specs.Laws.Steps.Sound.{sound-holds}
-use Rattle.history.specs.HeldLaws.{Held, found-held, not-found}
+use Rattle.definition.specs.Laws.Steps.SoundStation.{sound-holds}
+use Rattle.history.specs.FoundLaws.{FoundAt, found-held, not-found}
 use Rattle.changes.specs.Meaning.{actionOf}
 use Rattle.state.specs.ActLaws.{on-found, on-none}
 use Rattle.state.proofs.plain_on.Statement.{statement}
@@ -14,7 +14,7 @@ find-id-requires : tie.Need-find-id-requires
 find-id-requires c κs = sound-holds _ (c .before .before .before .before .pre .0 .whole) .book
 
 -- the record found
-held : (c : tie.After-i) → let s = c .before .before .before .before .before .before .before in Held (hasId (now (s .args .id))) (now (s .args .register)) (c .i .given .0 .0) (c .i .given .0 .1 .0)
+held : (c : tie.After-i) → let s = c .before .before .before .before .before .before .before in FoundAt (hasId (now (s .args .id))) (now (s .args .register)) (c .i .given .0 .0) (c .i .given .0 .1 .0)
 held c =
     let f = c .before .before in
     let s = f .before .before .before .before .before in

@@ -2,7 +2,7 @@
 use mathlib.Core.Path.{_≡_, subst}
 use borrow.Author.Needs.{needs}
 use denote.Ref.{now}
-use Rattle.definition.specs.Laws.Steps.Fields.{LegalCall}
+use Rattle.definition.specs.Contracts.LegalFields.{LegalCall}
 use Rattle.call.specs.declared.Parsed.{Parsed}
 use Rattle.call.specs.Meaning.{meaning, parsedWithin}
 use Rattle.reply.specs.declared.Reply.the-variants.{Refused}

@@ -6,10 +6,10 @@ use lib.ListN.{length}
 use denote.Ref.{now}
 use Rattle.octets.specs.Bytes.{Bytes}
 use Rattle.definition.specs.Value.{CallValue}
-use Rattle.definition.specs.Laws.Steps.Fields.{LegalCall}
+use Rattle.definition.specs.Contracts.LegalFields.{LegalCall}
 use Rattle.definition.specs.Perform.{perform}
 use Rattle.definition.specs.Laws.Text.Parse.{call-legal}
-use Rattle.register_check.specs.declared.Checked.{Checked}
+use Rattle.register_check.specs.declared.Soundness.{Soundness}
 use Rattle.register_check.specs.Meaning.{Gives}
 use Rattle.reply.specs.Meaning.{Replies}
 use Rattle.station.specs.StepLaws.{standing, stepped, unsound}
@@ -17,8 +17,8 @@ use Rattle.station.proofs.step.Statement.{statement}
 use Rattle.station.proofs.step.Tie as tie
 
 -- what the check said
-checked : (b : Bytes) {r q : Checked} → r ≡ q → Gives r b → Gives q b
-checked b e g = subst (λ (x : Checked). Gives x b) e g
+checked : (b : Bytes) {r q : Soundness} → r ≡ q → Gives r b → Gives q b
+checked b e g = subst (λ (x : Soundness). Gives x b) e g
 
 perform-requires : tie.Need-perform-requires
 perform-requires c κs =

@@ -1,6 +1,6 @@
 -- `put_string` meets its contract: the bytes stand behind their length.
 use native.Mathlib.Omega.{arith}
-use Rattle.definition.specs.Laws.Text.String.{put-string}
+use Rattle.definition.specs.Laws.Text.PutString.{put-string}
 use borrow.Author.Needs.{needs}
 use Rattle.strings.proofs.put_string.Statement.{statement}
 use Rattle.strings.proofs.put_string.Tie as tie

@@ -3,7 +3,7 @@ use mathlib.Core.Path.{ap}
 use mathlib.Core.List.{_∷_}
 use Prim.Native.Nat.{suc}
 use Rattle.definition.specs.Record.{short}
-use Rattle.definition.specs.Laws.Record.Write.{length-string}
+use Rattle.definition.specs.Laws.Record.ChangedSlot.{length-string}
 use Rattle.model.specs.Meaning.{part}
 use Rattle.build.proofs.Lent.{object-wrote}
 use borrow.Author.Needs.{needs}

@@ -6,7 +6,7 @@ use lib.Dec.{eqb}
 use Rattle.definition.specs.Chain.{Entry, entry, without, replaced}
 use Rattle.definition.specs.Alarm.{Alarm, Event, before, late}
 use Rattle.definition.specs.Station.{Station, Outcome, done, stopped, Step, taking, addActive, addHistory, addAudit, freeActive, oldestHistoryOf, freeOldestHistory, oldestAuditOf, freeOldestAudit, changeActive, changeHistory, countSuccess, countFailure}
-use Rattle.definition.specs.Laws.Steps.Fields.{Time, Each, LegalAlarm, LegalEvent, LegalFields}
+use Rattle.definition.specs.Contracts.LegalFields.{Time, Each, LegalAlarm, LegalEvent, LegalFields}
 
 -- ---- each record of a chain
 

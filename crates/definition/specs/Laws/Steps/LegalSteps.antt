@@ -11,7 +11,7 @@ use Rattle.definition.specs.Alarm.{Alarm, sameIdentity}
 use Rattle.definition.specs.Station.{Station, Outcome, Step, _>>=_, give, freeOldestHistory}
 use Rattle.definition.specs.Answer.{Answer, Raised, Updated, Cleared, ClearWithoutActive, ActiveLimitExceeded, Suppressed, Acknowledged, Unauthorized, AuditFailed, NotFound, Expired, Alarms, Counts, Summary, Events}
 use Rattle.definition.specs.Steps.{makeRoom, extendHistory, historyAfter, intoHistory, retire}
-use Rattle.definition.specs.Laws.Steps.Legal.{Legal}
+use Rattle.definition.specs.Contracts.LegalStation.{Legal}
 use Rattle.definition.specs.Laws.Steps.LegalMoves.{Ends, ok, ends-after, ends-weaken, Aside, addHistory-legal, freeActive-legal, freeOldestHistory-legal, changeHistory-legal}
 
 cond-ends : {A : Type 0} {Q : A → Station → Type 0} {s : Station} (b : Bool) (m n : Step A) → Ends Q (m s) → Ends Q (n s) → Ends Q (cond b m n s)

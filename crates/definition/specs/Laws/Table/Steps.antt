@@ -12,7 +12,7 @@ use Rattle.definition.specs.Utf8.{leads, follows, utf8From, utf8}
 use Rattle.definition.specs.White.{space, hasSpace}
 use Rattle.definition.specs.Cause.{oneOf, causeOf}
 use Rattle.definition.specs.Reader.{into, bytes, number, choice, blob, text, optional, causeText}
-use Rattle.definition.specs.Parse.{objectOf, object, head, places, key, body, raiseFields, fieldsOf, parseCall}
+use Rattle.definition.specs.Parse.{objectOf, object, raiseHead, places, key, raiseBody, raiseFields, fieldsOf, parseCall}
 use Rattle.definition.specs.Twins.{beforeText, TwinRaises}
 use Rattle.definition.specs.Chain.{Entry, those, first, newest, without, replaced, upFrom}
 use Rattle.definition.specs.Alarm.{Alarm, before, late, sameNames, sameKey, sameIdentity}
@@ -195,7 +195,7 @@ fields =
     ∷ 6 ∷ 0 ∷ 0 ∷ 0 ∷ 1 ∷ 97 ∷ 0 ∷ 0 ∷ 0 ∷ []
 
 unfoldable parsed : Bytes → CallValue
-unfolding valueFrom same begins leads follows utf8From utf8 space hasSpace oneOf causeOf Rattle.definition.specs.Reader._>>=_ into bytes number choice blob text optional causeText objectOf object head places key body raiseFields fieldsOf parseCall
+unfolding valueFrom same begins leads follows utf8From utf8 space hasSpace oneOf causeOf Rattle.definition.specs.Reader._>>=_ into bytes number choice blob text optional causeText objectOf object raiseHead places key raiseBody raiseFields fieldsOf parseCall
 parsed c = parseCall c
 
 -- no text, no details

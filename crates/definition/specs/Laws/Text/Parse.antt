@@ -15,10 +15,10 @@ use Rattle.definition.specs.Limits.{shortLimit, causeLimit, regionLimit,
 use Rattle.definition.specs.Utf8.{utf8}
 use Rattle.definition.specs.Cause.{causeOf}
 use Rattle.definition.specs.Laws.Text.Cause.{cause-stored, cause-length, cause-utf8}
-use Rattle.definition.specs.Value.{ObjectValue, PlacesValue, KeyValue, HeadValue, ScopeValue, ActorValue, RequestValue, CallValue, acknowledging, suppressing}
+use Rattle.definition.specs.Value.{ObjectValue, PlacesValue, KeyValue, RaiseHeadValue, ScopeValue, ActorValue, RequestValue, CallValue, acknowledging, suppressing}
 use Rattle.definition.specs.Reader.{Out, got, bad, Reader, next, _>>=_, give, refuse, into, bytes, number, choice, blob, text, optional, causeIs, causeText}
-use Rattle.definition.specs.Parse.{pair, sessionStore, dataPlaneQueue, objectOf, object, scopeOf, scope, head, places, key, body, named, raiseFields, clearFields, plainFields, actor, request, verdict, policyFields, severityOrAll, historyFields, fieldsOf, whole, parseCall}
-use Rattle.definition.specs.Laws.Steps.Fields.{Time, Maybe, BlobOf, TextOf, CauseOf, ObjectOf, LegalKey, LegalScope, LegalRaise, LegalPolicy, LegalCall}
+use Rattle.definition.specs.Parse.{pair, sessionStore, dataPlaneQueue, objectOf, object, scopeOf, scope, raiseHead, places, key, raiseBody, named, raiseFields, clearFields, plainFields, actor, request, verdict, policyFields, severityOrAll, historyFields, fieldsOf, whole, parseCall}
+use Rattle.definition.specs.Contracts.LegalFields.{Time, Maybe, BlobOf, TextOf, CauseOf, ObjectOf, LegalKey, LegalScope, LegalRaise, LegalPolicy, LegalCall}
 
 -- ---- a reader that gives a P of bytes, or refuses with a number below 30
 
@@ -190,20 +190,20 @@ legal-key k p h =
 
 -- ---- the table
 
-record ReadHead (h : HeadValue) : Type 0 where
+record ReadHead (h : RaiseHeadValue) : Type 0 where
   time : Time (h .time)
   id : TextOf shortLimit (h .id)
   type : TextOf shortLimit (h .type)
   severity : h .severity ≤ 5
 
-head-reads : Reads ReadHead head
-unfolding head
+head-reads : Reads ReadHead raiseHead
+unfolding raiseHead
 head-reads =
     bind-reads _ _ (number-reads 8) (λ t pt. bind-reads _ _ (text-reads shortLimit) (λ i pi. bind-reads _ _ (text-reads shortLimit) (λ y py.
     bind-reads _ _ (choice-reads 0 5) (λ v pv. give-reads ReadHead _ (record { time = pt; id = pi; type = py; severity = pv })))))
 
-body-reads : (h : HeadValue) (k : KeyValue) → ReadHead h → LegalKey k → Reads LegalRaise (body h k)
-unfolding body
+body-reads : (h : RaiseHeadValue) (k : KeyValue) → ReadHead h → LegalKey k → Reads LegalRaise (raiseBody h k)
+unfolding raiseBody
 body-reads h k ph pk =
     bind-reads _ _ (text-reads textLimit) (λ x px. bind-reads _ _ (optional-reads (BlobOf detailsLimit) _ (blob-reads detailsLimit)) (λ d pd.
     give-reads LegalRaise _ (record { time = ph .time; id = ph .id; type = ph .type; severity = ph .severity; key = pk; text = px; details = pd })))

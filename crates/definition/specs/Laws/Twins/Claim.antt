@@ -14,26 +14,26 @@ use Rattle.definition.specs.Parse.{parseCall}
 use Rattle.definition.specs.Station.{Station, Outcome, done, stopped, fresh, _>>=_}
 use Rattle.definition.specs.Answer.{Answer, answerBytes}
 use Rattle.definition.specs.Book.{isLimit}
-use Rattle.definition.specs.Laws.Book.Reflect.{limits-to}
+use Rattle.definition.specs.Laws.Book.BookTests.{limits-to}
 use Rattle.definition.specs.Opening.{Opened, opened, openOf}
 use Rattle.definition.specs.Perform.{inLength, perform}
 use Rattle.definition.specs.Laws.Steps.LegalSteps.{lists}
 use Rattle.definition.specs.Laws.Text.Kind.{kindOf, listing, Kind, kind, refuses, call-kind, lists-op}
-use Rattle.definition.specs.Laws.Steps.Fields.{LegalCall}
+use Rattle.definition.specs.Contracts.LegalFields.{LegalCall}
 use Rattle.definition.specs.Laws.Text.Parse.{call-legal}
-use Rattle.definition.specs.Laws.Twins.Kept.{LegalStation, Answered, perform-legal, fresh-legalStation, self-twin, left-legal, right-legal, twin-blank}
+use Rattle.definition.specs.Laws.Twins.KeptLegal.{LegalStation, Answered, perform-legal, fresh-legalStation, self-twin, left-legal, right-legal, twin-blank}
 use Rattle.definition.specs.Sound.{encode, sound}
-use Rattle.definition.specs.Laws.Steps.Sound.{legal-reads, legal-sound}
-use Rattle.definition.specs.Laws.Steps.Relate.{Both, both, neither}
-use Rattle.definition.specs.Laws.Steps.Like.{On, Told}
-use Rattle.definition.specs.Laws.Twins.Twin.{twin}
-use Rattle.definition.specs.Laws.Twins.Steps.{size-twin, perform-twin}
+use Rattle.definition.specs.Laws.Steps.SoundStation.{legal-reads, legal-sound}
+use Rattle.definition.specs.Laws.Steps.SideBySide.{Both, both, neither}
+use Rattle.definition.specs.Laws.Steps.Alike.{On, Told}
+use Rattle.definition.specs.Laws.Twins.TwinStations.{twin}
+use Rattle.definition.specs.Laws.Twins.TwinSteps.{size-twin, perform-twin}
 use Rattle.definition.specs.Laws.Twins.Mask.{mask-encode}
 use Rattle.definition.specs.Laws.Twins.MaskAnswer.{mask-answer}
 use Rattle.definition.specs.Mask.{maskRegister, maskAnswer, listsRecords}
 use Rattle.definition.specs.Lists.{Reply, replyOf, stepOf, run}
 use Rattle.definition.specs.Twins.{TwinCall, equal, raises, AtEach, TwinLists}
-use Rattle.definition.specs.Laws.Twins.Read.{twins-read}
+use Rattle.definition.specs.Laws.Twins.ReadTwins.{twins-read}
 use Rattle.definition.specs.Claim.{Fresh, Gives, Made, Trace, asked, AsReplied, Alike, AllOctets, Claim}
 
 -- ---- the first half: each call starts from the register that the definition keeps

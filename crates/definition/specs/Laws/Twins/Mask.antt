@@ -14,24 +14,24 @@ use Rattle.definition.specs.Chain.{Entry, entry, onContent, times}
 use Rattle.definition.specs.Alarm.{Alarm}
 use Rattle.definition.specs.Record.{alarmBytes}
 use Rattle.definition.specs.Laws.Record.Record.{length-alarm}
-use Rattle.definition.specs.Laws.Record.Write.{mask-alarm}
+use Rattle.definition.specs.Laws.Record.ChangedSlot.{mask-alarm}
 use Rattle.definition.specs.Book.{Record, Book, bookBytes}
-use Rattle.definition.specs.Laws.Book.Chain.{sized-append, sized-front, sized-back}
+use Rattle.definition.specs.Laws.Book.RecordAt.{sized-append, sized-front, sized-back}
 use Rattle.definition.specs.Laws.Book.LegalChange.{fair}
-use Rattle.definition.specs.Laws.Book.With.{with-self, chain-same}
+use Rattle.definition.specs.Laws.Book.ChangedChain.{with-self, chain-same}
 use Rattle.definition.specs.Laws.Book.Relink.{length-bytes}
 use Rattle.definition.specs.Laws.Book.Read.{index-range, read-payload, read-bytes}
 use Rattle.definition.specs.Laws.Book.Replace.{replace-bytes, legal-with}
 use Rattle.definition.specs.Station.{Station}
-use Rattle.definition.specs.Laws.Steps.Legal as S
+use Rattle.definition.specs.Contracts.LegalStation as S
 use Rattle.definition.specs.Sound.{bookOf, encode}
-use Rattle.definition.specs.Laws.Steps.Station.{book-legal}
+use Rattle.definition.specs.Laws.Steps.StationBook.{book-legal}
 use Rattle.definition.specs.Laws.Book.Contents.{length-map}
 use Rattle.definition.specs.Laws.Twins.Blank.{blank, blankEntry, blankStation}
 use Rattle.definition.specs.Mask.{textsWidth, maskRecord, maskChain, maskRegister}
-use Rattle.definition.specs.Laws.Book.Legal.{Sized, Legal, chain}
-use Rattle.definition.specs.Laws.Book.Times.{times-append}
-use Rattle.definition.specs.Laws.Book.Moves.{withChain}
+use Rattle.definition.specs.Contracts.LegalBook.{Sized, Legal, chain}
+use Rattle.definition.specs.Laws.Book.Occurrences.{times-append}
+use Rattle.definition.specs.Contracts.Moves.{withChain}
 
 -- ---- a splice within a part is a splice of the whole part
 

@@ -11,7 +11,7 @@ use Rattle.octets.specs.SpliceLaws.{splice-append, splice-front}
 use Rattle.definition.specs.Alarm.{Alarm}
 use Rattle.definition.specs.Record.{alarmBytes}
 use Rattle.definition.specs.Answer.{Answer, Raised, Updated, Cleared, ClearWithoutActive, ActiveLimitExceeded, Suppressed, Acknowledged, Unauthorized, AuditFailed, NotFound, Expired, Alarms, Counts, Summary, Events, Head, headBytes, headOf, alarmRecord, alarmRecords, answerBytes}
-use Rattle.definition.specs.Laws.Steps.Answer.{length-head, length-alarmRecord, length-alarmRecords}
+use Rattle.definition.specs.Laws.Steps.AnswerLength.{length-head, length-alarmRecord, length-alarmRecords}
 use Rattle.definition.specs.Laws.Book.Contents.{length-map}
 use Rattle.definition.specs.Laws.Steps.LegalSteps.{lists}
 use Rattle.definition.specs.Laws.Twins.Blank.{blank, blankAnswer}

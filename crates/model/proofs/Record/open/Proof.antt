@@ -7,7 +7,7 @@ use borrow.Author.Tests.{not-true, not-false}
 use denote.Ref.{now}
 use Rattle.octets.specs.BoolLaws.{true-holds}
 use Rattle.definition.specs.Book.{isLimit}
-use Rattle.definition.specs.Laws.Book.Reflect.{limits-to}
+use Rattle.definition.specs.Laws.Book.BookTests.{limits-to}
 use Rattle.model.specs.Opening.{Limits}
 use Rattle.model.specs.OpeningLaws.{open-limits, open-length, open-done, parts-of}
 use Rattle.model.proofs.Record.open.Statement.{statement}

@@ -1,0 +1,134 @@
+-- Steps on two stations that are alike: one law for each step. Each says that both stations stay legal and alike, that a call is refused on
+-- both with the same number, not 32, and that the active length moves by what is answered.
+use Prim.Native.Nat.{ℕ, zero, suc, _+_}
+use mathlib.Core.Path.{_≡_, refl, ap, ap₂, _∙_, subst}
+use mathlib.Core.List.{List, [], _∷_}
+use mathlib.Core.Option.{Option, none, some}
+use native.Mathlib.Omega.{arith}
+use lib.Dec.{leb, eqb, ltb}
+use lib.ListN.{length}
+use borrow.Author.Tests.{leb-false}
+use Rattle.octets.specs.Bytes.{Bytes, same}
+use Rattle.definition.specs.Value.{RaiseValue, ClearValue, PlainValue, Action, acknowledging, suppressing}
+use Rattle.definition.specs.Key.{keyOf}
+use Rattle.definition.specs.Laws.Text.Key.{length-key}
+use Rattle.definition.specs.Chain.{Entry, entry, times}
+use Rattle.definition.specs.Alarm.{Alarm, hasKey, hasId, before}
+use Rattle.definition.specs.Station.{Station, Step, give, forEach}
+use Rattle.definition.specs.Answer.{Answer, Updated, ActiveLimitExceeded}
+use Rattle.definition.specs.Steps.{change, retire, updatedBy, newAlarm, store, storeNew, raiseAt, raise, clearAt, clear, actionAnswer, actedOn, act, plainAt, plain, isDueEntry, retireDue, expire}
+use Rattle.definition.specs.Perform.{inRecord}
+use Rattle.definition.specs.Laws.Steps.LegalSteps.{said}
+use Rattle.definition.specs.Laws.Book.Occurrences.{length-without}
+use Rattle.definition.specs.Laws.Steps.PairedChains.{nothing, picked-left, picked-length, those-each, picked-each, length-each}
+use Rattle.definition.specs.Laws.Steps.SideBySide.{Related, Only, give-related, look-related, refuse-related, cond-related, pre-related, known-related, never-related, post-related, bind-related, then-related, test-related}
+use Rattle.definition.specs.Laws.Steps.Alike.{Likeness, On, Told, worded, Lasting, change-active, free-active, BelowLimit, add-active, pick, search-like}
+
+module _ {k : Likeness} (l : Lasting k) where
+  -- ---- the steps
+
+  pub settled : {n : ℕ} {d d′ : List (Entry Alarm)} {s t : Station} → On k n d d′ s t → On k (length (s .active)) [] [] s t
+  settled p = record { legal = p .legal; legal′ = p .legal′; size = refl; limit = p .limit; pairs = p .pairs; picked = nothing; rest = p .rest }
+
+  pub told : {i m n : ℕ} {d d′ : List (Entry Alarm)} {x x′ : Answer} → k .Says x x′ → said x .2 ≡ i → n + said x .0 ≡ m + said x .1 → (s t : Station) → On k m d d′ s t → Told k i n x x′ s t
+  told h j e s t p = record { says = h; kind = j; even = e ∙ omega (arith, p .size); on = settled p }
+
+  -- an answer that says nothing of the active chain
+  abbrev Neutral : Answer → Type 0
+  Neutral x = said x ≡ (0, 0, 0)
+
+  pub quiet : {n : ℕ} {d d′ : List (Entry Alarm)} {x x′ : Answer} → k .Says x x′ → Neutral x → Related (On k n d d′) (Told k 0 n) (give x) (give x′)
+  quiet h q = give-related (told h (ap (λ (z : ℕ × ℕ × ℕ). z .2) q) (omega (arith, ap (λ (z : ℕ × ℕ × ℕ). z .0) q, ap (λ (z : ℕ × ℕ × ℕ). z .1) q)))
+
+  pub change-like : {n : ℕ} {e e′ : Entry Alarm} {a a′ : Alarm} (answer : Alarm → Answer) → k .Pair (entry (e .index) a) (entry (e′ .index) a′) → k .Says (answer a) (answer a′) → Neutral (answer a) →
+      Related (On k n (e ∷ []) (e′ ∷ [])) (Told k 0 n) (change answer (e .index) a) (change answer (e′ .index) a′)
+  unfolding change
+  change-like answer h q z = then-related (change-active l h) (then-related (l .files (l .pairPast h)) (quiet q z))
+
+  retire-like : {n : ℕ} {e e′ : Entry Alarm} {d d′ : List (Entry Alarm)} {a a′ : Alarm} → k .Past a a′ →
+      Related (On k (suc n) (e ∷ d) (e′ ∷ d′)) (Only (On k n d d′)) (retire (e .index) a) (retire (e′ .index) a′)
+  unfolding retire
+  retire-like h = then-related (free-active l) (l .files h)
+
+  -- ---- raise
+
+  store-like : {n : ℕ} {a a′ : Alarm} → k .New a a′ → Related (BelowLimit l n) (Told k 0 n) (store a) (store a′)
+  unfolding store
+  store-like {n} h = then-related (add-active l h) (then-related (l .files (l .newPast h)) (give-related (told (l .saysRaised h) refl (omega arith))))
+
+  module _ {c : RaiseValue} {w : Bytes} {d : Option Bytes} (r : k .Raise c (worded w d c)) where
+    storeNew-like : {n : ℕ} (i : Bytes) → length i ≡ 16 → Related (BelowLimit l n) (Told k 0 n) (storeNew (newAlarm c i)) (storeNew (newAlarm (worded w d c) i))
+    unfolding storeNew newAlarm
+    storeNew-like i h = search-like l _ _ (hasId (c .head .id)) (λ e e′ q. ap (same (c .head .id)) (l .ids q)) (λ s t p. p .0) (store-like (l .news i h r)) (λ e e′ q. refuse-related (omega arith))
+
+    raiseNew-like : {n : ℕ} (i : Bytes) → length i ≡ 16 → Related (On k n [] []) (Told k 0 n) (raiseAt c i none) (raiseAt (worded w d c) i none)
+    unfolding raiseAt
+    raiseNew-like i h =
+        test-related _ (λ s t p. ap₂ leb (p .limit) (length-each (k .Pair) (s .active) (t .active) (p .pairs)))
+        (look-related (λ s t (p, q). told (subst (λ (a : ℕ). k .Says (ActiveLimitExceeded i (s .limitA)) (ActiveLimitExceeded i a)) (p .limit) (l .saysSame _)) refl (omega arith) s t p))
+        (pre-related (λ s t (p, q). (p, omega (arith, leb-false (s .limitA) (length (s .active)) q, p .size))) (storeNew-like i h))
+
+    pub raise-like : {n : ℕ} → Related (On k n [] []) (Told k 0 n) (raise c) (raise (worded w d c))
+    unfolding raise raiseAt updatedBy
+    raise-like =
+        let i = keyOf (c .head .type) (c .key) in
+        search-like l _ _ (hasKey i) (λ e e′ q. ap (same i) (l .keys q)) (λ s t p. p) (raiseNew-like i (length-key _ _)) (λ e e′ q. change-like Updated (l .updates r q) (l .saysUpdated (l .updates r q)) refl)
+
+  -- ---- clear
+
+  clearAt-like : {n : ℕ} (c : ClearValue) → k .Time (c .time) → (i : Bytes) (e e′ : Entry Alarm) → k .Pair e e′ → Related (On k n (e ∷ []) (e′ ∷ [])) (Told k 0 n) (clearAt c i (some e)) (clearAt c i (some e′))
+  unfolding clearAt
+  clearAt-like {n = suc n} c h i e e′ q = then-related (retire-like (l .clears h q)) (rw (l .ids q) (give-related (told (l .saysSame _) refl (omega arith))))
+  clearAt-like {n = zero} c h i e e′ q = never-related (λ s t p. omega (arith, p .size, length-without (e .index) (s .active) (picked-left (p .picked))))
+
+  pub clear-like : {n : ℕ} (c : ClearValue) → k .Time (c .time) → Related (On k n [] []) (Told k 0 n) (clear c) (clear c)
+  unfolding clear clearAt
+  clear-like c h = let i = keyOf (c .type) (c .key) in search-like l _ _ (hasKey i) (λ e e′ q. ap (same i) (l .keys q)) (λ s t p. p) (quiet (l .saysSame _) refl) (clearAt-like c h i)
+
+  -- ---- acknowledge and suppress
+
+  pub act-like : {n : ℕ} (x : Action) (t : ℕ) → k .Time t → (e e′ : Entry Alarm) → k .Pair e e′ → Related (On k n (e ∷ []) (e′ ∷ [])) (Told k 0 n) (act x t e) (act x t e′)
+  unfolding act actedOn
+  act-like x t h e e′ q = change-like (actionAnswer x) (l .acts x h q) (l .saysActed x (l .acts x h q)) (neutral x _)
+    where
+      neutral : (x : Action) (a : Alarm) → said (actionAnswer x a) ≡ (0, 0, 0)
+      neutral acknowledging a = refl
+      neutral suppressing a = refl
+
+  pub plain-like : {n : ℕ} (x : Action) (p : PlainValue) → k .Time (p .time) → Related (On k n [] []) (Told k 0 n) (plain x p) (plain x p)
+  unfolding plain plainAt
+  plain-like x p h =
+      cond-related (eqb (p .authorised) 0) (quiet (l .saysSame _) refl)
+      (search-like l _ _ (hasId (p .id)) (λ e e′ q. ap (same (p .id)) (l .ids q)) (λ s t q. q) (quiet (l .saysSame _) refl) (act-like x (p .time) h))
+
+  -- ---- expire
+
+  -- so many less than n
+  abbrev Fewer : ℕ → ℕ → Station → Station → Type 0
+  Fewer n m s t = On k (length (s .active)) [] [] s t × (length (s .active) + m ≡ n)
+
+  retires-like : {t : ℕ} → k .Time t → {n : ℕ} (d d′ : List (Entry Alarm)) → Related (On k n d d′) (Only (Fewer n (length d))) (forEach d (retireDue t)) (forEach d′ (retireDue t))
+  unfolding forEach
+  retires-like h [] [] = give-related (λ s t p. (settled p, omega (arith, p .size)))
+  retires-like h {n = suc n} (e ∷ d) (e′ ∷ d′) =
+      known-related (λ s t (p : On k (suc n) (e ∷ d) (e′ ∷ d′) s t). picked-each (k .Pair) {d = e ∷ d} {d′ = e′ ∷ d′} (p .picked) (p .pairs) .0)
+      (λ q. then-related (retire-like (l .expires h q)) (post-related (λ u v s t p. (p .0, omega (arith, p .1))) (retires-like h {n = n} d d′)))
+  retires-like h {n = zero} (e ∷ d) (e′ ∷ d′) = never-related (λ s t p. omega (arith, p .size, length-without (e .index) (s .active) (picked-left (p .picked))))
+  retires-like h [] (e ∷ d) = never-related (λ s t p. picked-each (k .Pair) {d = []} {d′ = e ∷ d} (p .picked) (p .pairs))
+  retires-like h (e ∷ d) [] = never-related (λ s t p. picked-each (k .Pair) {d = e ∷ d} {d′ = []} (p .picked) (p .pairs))
+
+  pub expire-like : {n : ℕ} (t : ℕ) → k .Time t → Related (On k n [] []) (Told k 7 n) (expire t) (expire t)
+  unfolding expire
+  expire-like {n} t h =
+      bind-related {Q = λ d d′ s r. (length d ≡ length d′) × On k n d d′ s r}
+      (look-related (λ s r p.
+      let z = those-each (k .Pair) (isDueEntry t) (λ e e′ q. ap (λ u. before u t) (l .times q)) (s .active) (r .active) (p .pairs) in
+      (picked-length z, pick l p z)))
+      (λ d d′. known-related (λ s r p. p .0) (λ q. pre-related (λ s r p. p .1) (then-related (retires-like h d d′)
+      (rw q (give-related (λ s r p. record { says = l .saysSame _; kind = refl; even = omega (arith, p .1); on = p .0 }))))))
+
+  -- ---- in a record's room
+
+  pub inRecord-like : {P : Station → Station → Type 0} {Q : Answer → Answer → Station → Station → Type 0} (n : ℕ) {m m′ : Step Answer} → Related P Q m m′ → Related P Q (inRecord n m) (inRecord n m′)
+  unfolding inRecord
+  inRecord-like n x = cond-related (ltb n 1552) (refuse-related (omega arith)) x

@@ -1,0 +1,108 @@
+-- Each change of an alarm keeps its fields legal, and an event has legal fields.
+use Prim.Native.Nat.{ℕ, _≤_}
+use mathlib.Core.Path.{_≡_, refl}
+use mathlib.Core.List.{[]}
+use mathlib.Core.Option.{Option, none}
+use mathlib.Core.Bool.{Bool, true, false, cond}
+use native.Mathlib.Omega.{arith}
+use lib.Dec.{leb}
+use Rattle.octets.specs.Bytes.{Bytes}
+use Rattle.definition.specs.Limits.{textLimit, detailsLimit}
+use Rattle.definition.specs.Value.{RaiseValue, PolicyValue, Action, acknowledging, suppressing}
+use Rattle.definition.specs.Alarm.{Alarm, changed}
+use Rattle.definition.specs.Steps.{updatedState, updatedBy, newAlarm, clearedBy, actionState, actionByte, actedOn, eventOf, expiredBy}
+use Rattle.definition.specs.Contracts.LegalFields.{Time, Maybe, BlobOf, TextOf, KeyOf, LegalAlarm, LegalEvent, LegalRaise, LegalPolicy}
+use Rattle.definition.specs.Laws.Twins.Blank.{blank}
+use Rattle.definition.specs.Laws.Steps.FieldMoves.{late-time}
+
+-- ---- the changes of an alarm
+
+-- legal values of the fields that steps change keep an alarm legal; the state may be of another chain
+pub changed-legal :
+    {top last v x u : ℕ} {s : Bytes} {d : Option Bytes} {c : Option ℕ} (a : Alarm) → LegalAlarm top a →
+    v ≤ 5 → TextOf textLimit s → Maybe (BlobOf detailsLimit) d → x ≤ last → Time u → Maybe Time c → LegalAlarm last (changed a v s d x u c)
+changed-legal a p severity text details state updated cleared = record {
+  id = p .id;
+  type = p .type;
+  severity = severity;
+  about = p .about;
+  text = text;
+  details = details;
+  state = state;
+  raisedAt = p .raisedAt;
+  updatedAt = updated;
+  clearedAt = cleared;
+  key = p .key;
+}
+
+-- text and details taken away after a change, or before it
+pub changed-blank : (a : Alarm) (v x u : ℕ) (s : Bytes) (d : Option Bytes) (c : Option ℕ) → blank (changed a v s d x u c) ≡ changed (blank a) v [] none x u c
+changed-blank a v x u s d c = refl
+
+pub past : (a : Alarm) → LegalAlarm 3 a → LegalAlarm 5 a
+past a p = changed-legal a p (p .severity) (p .text) (p .details) (omega (arith, p .state)) (p .updatedAt) (p .clearedAt)
+
+updatedState-active : (n : ℕ) → n ≤ 3 → updatedState n ≤ 3
+updatedState-active n h = go (leb n 1)
+  where
+    go : (b : Bool) → cond b 1 n ≤ 3
+    go true = omega arith
+    go false = h
+
+pub updated-legal : (c : RaiseValue) (a : Alarm) → LegalRaise c → LegalAlarm 3 a → LegalAlarm 3 (updatedBy c a)
+unfolding updatedBy
+updated-legal c a r p = changed-legal a p (r .severity) (r .text) (r .details) (updatedState-active (a .state) (p .state)) (late-time (c .head .time) (a .raisedAt) (r .time) (p .raisedAt)) (p .clearedAt)
+
+pub new-legal : (c : RaiseValue) (k : Bytes) → LegalRaise c → KeyOf k → LegalAlarm 3 (newAlarm c k)
+unfolding newAlarm
+new-legal c k r h = record {
+  id = r .id;
+  type = r .type;
+  severity = r .severity;
+  about = r .key;
+  text = r .text;
+  details = r .details;
+  state = omega arith;
+  raisedAt = r .time;
+  updatedAt = r .time;
+  clearedAt = tt;
+  key = h;
+}
+
+pub cleared-legal : (t : ℕ) (a : Alarm) → Time t → LegalAlarm 3 a → LegalAlarm 5 (clearedBy t a)
+unfolding clearedBy
+cleared-legal t a h p =
+    let l = late-time t (a .raisedAt) h (p .raisedAt) in
+    changed-legal a p (omega arith) (p .text) (p .details) (omega arith) l l
+
+actionState-active : (x : Action) → actionState x ≤ 3
+actionState-active acknowledging = omega arith
+actionState-active suppressing = omega arith
+
+pub acted-legal : (x : Action) (t : ℕ) (a : Alarm) → Time t → LegalAlarm 3 a → LegalAlarm 3 (actedOn x t a)
+unfolding actedOn
+acted-legal x t a h p = changed-legal a p (p .severity) (p .text) (p .details) (actionState-active x) (late-time t (a .raisedAt) h (p .raisedAt)) (p .clearedAt)
+
+pub expired-legal : (t : ℕ) (a : Alarm) → Time t → LegalAlarm 3 a → LegalAlarm 5 (expiredBy t a)
+unfolding expiredBy
+expired-legal t a h p = changed-legal a p (p .severity) (p .text) (p .details) (omega arith) h h
+
+actionByte-small : (x : Action) → actionByte x ≤ 1
+actionByte-small acknowledging = omega arith
+actionByte-small suppressing = omega arith
+
+pub event-legal : (x : Action) (outcome : ℕ) (p : PolicyValue) (a : Alarm) → outcome ≤ 1 → LegalPolicy p → LegalAlarm 3 a → LegalEvent (eventOf x outcome p a)
+unfolding eventOf
+event-legal x n p a h q l = record {
+  action = actionByte-small x;
+  outcome = h;
+  id = l .id;
+  type = l .type;
+  cause = l .about .cause;
+  principal = q .principal;
+  tenant = q .tenant;
+  reason = q .reason;
+  scope = q .scope;
+  correlation = q .correlation;
+  occurredAt = late-time (p .actor .time) (a .raisedAt) (q .time) (l .raisedAt);
+}

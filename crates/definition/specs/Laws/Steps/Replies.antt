@@ -1,0 +1,30 @@
+-- What the code of an operation promises, and the reply that the definition gives: they agree.
+use Prim.Native.Nat.{ℕ}
+use mathlib.Core.Path.{refl, sym, _∙_}
+use Rattle.octets.specs.Bytes.{Bytes}
+use Rattle.octets.specs.SpliceLaws.{splice-none}
+use Rattle.definition.specs.Station.{Step}
+use Rattle.definition.specs.Answer.{Answer}
+use Rattle.definition.specs.Sound.{station}
+use Rattle.definition.specs.Laws.Steps.SoundStation.{sound-holds}
+use Rattle.definition.specs.Lists.{replyOf}
+use Rattle.definition.specs.Claim.{Gives}
+use Rattle.definition.specs.Contracts.Does.{Answers, Refuses}
+
+pub answers-give : (m : Step Answer) (b b′ a a′ : Bytes) (n : ℕ) → Answers m b b′ a a′ n → Gives (replyOf b (m (station b))) a 0 n a′ b′
+answers-give m b b′ a a′ n x =
+    rw (x .does .step) (record {
+      number-is = refl;
+      length-is = x .size;
+      answer-is = x .bytes;
+      register-is = sym (sound-holds b′ (x .does .sound) .bytes);
+    })
+
+pub refuses-give : (m : Step Answer) (b b′ a a′ : Bytes) (k : ℕ) → Refuses m b b′ a a′ k → Gives (replyOf b (m (station b))) a k 0 a′ b′
+refuses-give m b b′ a a′ k x =
+    rw (x .stops) (record {
+      number-is = refl;
+      length-is = refl;
+      answer-is = x .answer ∙ sym (splice-none a 0);
+      register-is = x .register;
+    })

@@ -1,0 +1,51 @@
+-- What it means to read on from a place. The first fault wins: after a fault nothing is read, and it stays.
+use Prim.Native.Nat.{ℕ}
+use mathlib.Core.Path.{_≡_}
+use mathlib.Core.Bool.{Bool, cond}
+use lib.ListN.{drop}
+use Rattle.octets.specs.Bytes.{Bytes}
+use Rattle.definition.specs.Limits.{causeLimit}
+use Rattle.definition.specs.Cause.{causeOf}
+use Rattle.definition.specs.Reader.{Out, got, bad, Reader, causeIs}
+use Rattle.model.specs.Meaning.{part, causePart, within, causeWithin}
+use Rattle.model.specs.declared.Span.{Span}
+use Rattle.fields.specs.declared.Cursor.{Cursor}
+use Rattle.fields.specs.declared.Cursor.the-variants.{At, Fault}
+use Rattle.fields.specs.declared.TextRead.{TextRead}
+use Rattle.fields.specs.declared.CauseRead.{CauseRead}
+
+module _ {A : Type 0} where
+  -- a value, and what is left after it
+  abbrev pub outAt : Bytes → A → Cursor → Out A
+  outAt call v (At i) = got v (drop i call)
+  outAt call v (Fault k) = bad k
+
+  -- what a reader gives on from a place
+  abbrev pub from : Bytes → Cursor → Reader A → Out A
+  from call (At i) r = r (drop i call)
+  from call (Fault k) r = bad k
+
+-- on from a place r gives the value v, and the reading stands at `next`; or it is the fault that r finds
+pub record Reads {A : Type 0} (call : Bytes) (at : Cursor) (r : Reader A) (v : A) (next : Cursor) : Type 0 where
+  pub out : outAt call v next ≡ from call at r
+
+abbrev pub refused : Cursor → ℕ → Cursor
+refused (At i) n = Fault n
+refused (Fault k) n = Fault k
+
+-- a fault unless a test holds
+unfoldable pub checked : Cursor → Bool → ℕ → Cursor
+checked at ok n = cond ok at (refused at n)
+
+abbrev pub noBytes : Cursor → TextRead
+noBytes q = record { text = record { at = 0; len = 0 }; next = q }
+
+-- n bytes at a place, none at a fault
+abbrev pub bytesFrom : Cursor → ℕ → ℕ
+bytesFrom (At i) n = n
+bytesFrom (Fault k) n = 0
+
+-- the bytes of a part, which starts at a place of the call, are a cause: what is answered means it; or they are none
+pub record IsCause (lent : Bytes) (at : ℕ) (next : Cursor) (r : CauseRead) : Type 0 where
+  pub reads : (call : Bytes) (p : Span) → lent ≡ part call p → p .at ≡ at → Reads call next (causeIs (causeOf lent)) (causePart call (r .cause)) (r .next)
+  pub fits : (call : Bytes) (p : Span) → lent ≡ part call p → p .at ≡ at → within call causeLimit p → causeWithin call (r .cause)

@@ -1,0 +1,54 @@
+-- What the fields of a call with policy mean: offsets and lengths become the bytes there.
+use Rattle.octets.specs.Bytes.{Bytes}
+use Rattle.definition.specs.Limits.{shortLimit, regionLimit, textLimit}
+use Rattle.definition.specs.Value.{ScopeValue, ActorValue, RequestValue, VerdictValue, PolicyValue}
+use Rattle.model.specs.Meaning.{part, optPart, within, optWithin}
+use Rattle.policy_fields.specs.declared.Scope.{Scope}
+use Rattle.policy_fields.specs.declared.Scope.the-variants as S
+use Rattle.policy_fields.specs.declared.Actor.{Actor}
+use Rattle.policy_fields.specs.declared.Request.{Request}
+use Rattle.policy_fields.specs.declared.Verdict.{Verdict}
+use Rattle.policy_fields.specs.declared.Policy.{Policy}
+
+-- ---- values
+
+-- 0 alarm with id, 1 tenant with string, 2 global
+abbrev pub scopeValue : Bytes → Scope → ScopeValue
+scopeValue call (S.Alarm p) = ScopeValue.alarmScope (part call p)
+scopeValue call (S.Tenant p) = ScopeValue.tenantScope (part call p)
+scopeValue call S.Global = ScopeValue.globalScope
+
+abbrev pub actorValue : Bytes → Actor → ActorValue
+actorValue call a = record { time = a .time; id = part call (a .id); principal = part call (a .principal); tenant = optPart call (a .tenant) }
+
+abbrev pub requestValue : Bytes → Request → RequestValue
+requestValue call r = record { reason = part call (r .reason); scope = scopeValue call (r .scope); correlation = optPart call (r .correlation) }
+
+abbrev pub verdictValue : Bytes → Verdict → VerdictValue
+verdictValue call v = record { critical = v .«critical_allowed»; authorised = v .authorised; denial = part call (v .denial) }
+
+abbrev pub policyValue : Bytes → Policy → PolicyValue
+policyValue call p =
+    record { actor = actorValue call (p .actor); request = requestValue call (p .request); verdict = verdictValue call (p .verdict) }
+
+-- ---- every part lies within the call and its limit
+
+abbrev pub scopeWithin : Bytes → Scope → Type 0
+scopeWithin call (S.Alarm p) = within call shortLimit p
+scopeWithin call (S.Tenant p) = within call shortLimit p
+scopeWithin call S.Global = Unit
+
+pub record ActorWithin (call : Bytes) (a : Actor) : Type 0 where
+  pub id : within call shortLimit (a .id)
+  pub principal : within call shortLimit (a .principal)
+  pub tenant : optWithin call shortLimit (a .tenant)
+
+pub record RequestWithin (call : Bytes) (r : Request) : Type 0 where
+  pub reason : within call textLimit (r .reason)
+  pub scope : scopeWithin call (r .scope)
+  pub correlation : optWithin call shortLimit (r .correlation)
+
+pub record PolicyWithin (call : Bytes) (p : Policy) : Type 0 where
+  pub actor : ActorWithin call (p .actor)
+  pub request : RequestWithin call (p .request)
+  pub denial : within call regionLimit (p .verdict .denial)

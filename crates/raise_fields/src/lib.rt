@@ -1,0 +1,147 @@
+// A raise and a clear: their fields, read to numbers, and to places and lengths of strings.
+use fields::Cursor;
+use fields::StringKind;
+use model::KeyFields;
+use model::OptSpan;
+use model::Record;
+use model::Span;
+ghost use mathlib.Core.Path.{_≡_};
+ghost use Rattle.definition.specs.Parse.{raiseHead, raiseBody, raiseFields, clearFields};
+ghost use Rattle.model.specs.Meaning.{keyValue, KeyWithin};
+ghost use Rattle.fields.specs.Cursor.{Reads};
+ghost use Rattle.raise_fields.specs.Meaning.{headValue, raiseValue, clearValue, namedSpan, HeadWithin, RaiseWithin, ClearWithin};
+
+// How a raise begins.
+pub struct RaiseHead {
+    pub time: u64,
+    pub id: Span,
+    pub alarm_type: Span,
+    pub severity: u8,
+}
+
+pub struct Raise {
+    pub head: RaiseHead,
+    pub key: KeyFields,
+    pub text: Span,
+    pub details: OptSpan,
+}
+
+pub struct Clear {
+    pub time: u64,
+    pub alarm_type: Span,
+    pub key: KeyFields,
+}
+
+// What a reader answers: a value, and where the reading stands after it.
+struct HeadRead {
+    head: RaiseHead,
+    next: Cursor,
+}
+
+pub struct RaiseRead {
+    pub raise: Raise,
+    pub next: Cursor,
+}
+
+pub struct ClearRead {
+    pub clear: Clear,
+    pub next: Cursor,
+}
+
+// ---- raise
+
+fn head_at(call: &[u8], at: Cursor) -> HeadRead
+    ensures { λ r. ⌜ Reads (now (call .entry)) at raiseHead (headValue (now (call .entry)) (r .head)) (r .next) × HeadWithin (now (call .entry)) (r .head) ⌝ }
+{
+    let time = fields::number_at(call, at, 8);
+    let at = time.next;
+    let id = fields::text_at(call, at, Record::SHORT);
+    let at = id.next;
+    let id = id.text;
+    let alarm_type = fields::text_at(call, at, Record::SHORT);
+    let at = alarm_type.next;
+    let alarm_type = alarm_type.text;
+    let severity = fields::choice_at(call, at, 0, 5);
+    let at = severity.next;
+    HeadRead {
+        head: RaiseHead {
+            time: time.value,
+            id: id,
+            alarm_type: alarm_type,
+            severity: severity.value,
+        },
+        next: at,
+    }
+}
+
+// Whether a region has a byte, where there is one.
+fn is_named(region: OptSpan) -> bool
+    ensures { λ r. ⌜ r ≡ namedSpan region ⌝ }
+{
+    match region {
+        OptSpan::Absent => true,
+        OptSpan::Present(p) => 0 < p.len,
+    }
+}
+
+// The text and the details, after the key.
+fn body_at(call: &[u8], at: Cursor, head: RaiseHead, key: KeyFields) -> RaiseRead
+    requires { ⌜ HeadWithin (now call) head × KeyWithin (now call) key ⌝ }
+    ensures { λ r. ⌜ Reads (now (call .entry)) at (raiseBody (headValue (now (call .entry)) head) (keyValue (now (call .entry)) key)) (raiseValue (now (call .entry)) (r .raise)) (r .next) × RaiseWithin (now (call .entry)) (r .raise) ⌝ }
+{
+    let text = fields::text_at(call, at, Record::TEXT);
+    let at = text.next;
+    let text = text.text;
+    let details = fields::option_at(call, at, Record::DETAILS, StringKind::Blob);
+    let at = details.next;
+    let details = details.text;
+    RaiseRead {
+        raise: Raise {
+            head: head,
+            key: key,
+            text: text,
+            details: details,
+        },
+        next: at,
+    }
+}
+
+// The fields of a raise.
+pub fn raise_at(call: &[u8], at: Cursor) -> RaiseRead
+    ensures { λ r. ⌜ Reads (now (call .entry)) at raiseFields (raiseValue (now (call .entry)) (r .raise)) (r .next) × RaiseWithin (now (call .entry)) (r .raise) ⌝ }
+{
+    let head = head_at(call, at);
+    let at = head.next;
+    let head = head.head;
+    let key = key_fields::key_at(call, at);
+    let at = key.next;
+    let key = key.key;
+    let places = key.places;
+    let region = places.region;
+    let at = fields::refuse_unless(at, is_named(region), 29);
+    body_at(call, at, head, key)
+}
+
+// ---- clear
+
+// The fields of a clear.
+pub fn clear_at(call: &[u8], at: Cursor) -> ClearRead
+    ensures { λ r. ⌜ Reads (now (call .entry)) at clearFields (clearValue (now (call .entry)) (r .clear)) (r .next) × ClearWithin (now (call .entry)) (r .clear) ⌝ }
+{
+    let time = fields::number_at(call, at, 8);
+    let at = time.next;
+    let alarm_type = fields::text_at(call, at, Record::SHORT);
+    let at = alarm_type.next;
+    let alarm_type = alarm_type.text;
+    let key = key_fields::key_at(call, at);
+    let at = key.next;
+    let key = key.key;
+    ClearRead {
+        clear: Clear {
+            time: time.value,
+            alarm_type: alarm_type,
+            key: key,
+        },
+        next: at,
+    }
+}
