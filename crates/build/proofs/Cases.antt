@@ -7,8 +7,8 @@ use Rattle.definition.specs.Record.{anyBytes, objectSlot, scopeSlot}
 use Rattle.model.specs.declared.OptSpan.{OptSpan}
 use Rattle.model.specs.declared.AffectedObject.{AffectedObject}
 use Rattle.model.specs.Meaning.{optPart, objectValue}
-use Rattle.policy_fields.specs.declared.Scope.{Scope}
-use Rattle.policy_fields.specs.Meaning.{scopeValue, scopeWithin}
+use Rattle.action_fields.specs.declared.Scope.{Scope}
+use Rattle.action_fields.specs.Meaning.{scopeValue, scopeWithin}
 
 module _ (call b : Bytes) {c : Bytes} where
   pub option-slot : (at n : ℕ) {s t : OptSpan} → s ≡ t → c ≡ splice b at (option (string n anyBytes) .put (optPart call t)) → c ≡ splice b at (option (string n anyBytes) .put (optPart call s))

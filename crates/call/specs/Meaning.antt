@@ -6,7 +6,7 @@ use Rattle.definition.specs.Value.{PlainValue, CallValue, acknowledging, suppre
 use Rattle.model.specs.Meaning.{part, optPart, within, optWithin}
 use Rattle.fields.specs.declared.Cursor.{Cursor}
 use Rattle.fields.specs.Cursor.{Reads}
-use Rattle.policy_fields.specs.Meaning.{policyValue, PolicyWithin}
+use Rattle.action_fields.specs.Meaning.{policyValue, PolicyWithin}
 use Rattle.raise_fields.specs.Meaning.{raiseValue, clearValue, RaiseWithin, ClearWithin}
 use Rattle.call.specs.declared.Plain.{Plain}
 use Rattle.call.specs.declared.Parsed.{Parsed}

@@ -1,12 +1,12 @@
 // A call: its operation and its fields, read to numbers, and to places and lengths of its strings.
+use action_fields::Policy;
+use action_fields::PolicyRead;
 use fields::Cursor;
 use fields::NumRead;
 use fields::StringKind;
 use model::OptSpan;
 use model::Record;
 use model::Span;
-use policy_fields::Policy;
-use policy_fields::PolicyRead;
 use raise_fields::Clear;
 use raise_fields::ClearRead;
 use raise_fields::Raise;
@@ -213,8 +213,8 @@ fn operation_at(call: &[u8], at: Cursor, op: u8) -> CallRead
         2 => clear_of(raise_fields::clear_at(call, at)),
         3 => acknowledge_of(plain_at(call, at)),
         4 => suppress_of(plain_at(call, at)),
-        5 => acknowledge_policy_of(policy_fields::policy_at(call, at)),
-        6 => suppress_policy_of(policy_fields::policy_at(call, at)),
+        5 => acknowledge_policy_of(action_fields::policy_at(call, at)),
+        6 => suppress_policy_of(action_fields::policy_at(call, at)),
         7 => expire_of(fields::number_at(call, at, 8)),
         8 => active_at(call, at),
         9 => history_at(call, at),

@@ -1,6 +1,8 @@
 // Reads calls from the standard input, each behind its length in four bytes, and writes a line for each: what the parser says of it.
 // The files `stdin` and `stdout` of this crate are made by `python3 tests/calls/make.py`, which reads the calls by document 01 in a way
 // of its own; tests/calls/reading.py says how a line is written.
+use action_fields::Policy;
+use action_fields::Scope;
 use call::Parsed;
 use call::Plain;
 use libc::STDIN_FILENO;
@@ -11,8 +13,6 @@ use model::KeyFields;
 use model::OptSpan;
 use model::Places;
 use model::Span;
-use policy_fields::Policy;
-use policy_fields::Scope;
 use raise_fields::Clear;
 use raise_fields::Raise;
 

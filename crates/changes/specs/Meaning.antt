@@ -1,22 +1,15 @@
--- What the code's actions and a raise's news mean.
+-- What a raise's news mean.
 use Prim.Native.Nat.{ℕ}
 use mathlib.Core.Path.{_≡_, refl}
 use mathlib.Core.Option.{Option}
 use Rattle.octets.specs.Bytes.{Bytes}
 use Rattle.definition.specs.Limits.{textLimit, detailsLimit}
-use Rattle.definition.specs.Value as Value
-use Rattle.definition.specs.Value.{RaiseValue, acknowledging, suppressing}
+use Rattle.definition.specs.Value.{RaiseValue}
 use Rattle.definition.specs.Alarm.{Alarm, withSeverity, withText, withDetails, withState, withUpdated, late}
 use Rattle.definition.specs.Record.{alarmBytes}
 use Rattle.definition.specs.Steps.{updatedState, updatedBy}
 use Rattle.model.specs.Meaning.{part, optPart, within, optWithin}
-use Rattle.changes.specs.declared.Action.{Action}
-use Rattle.changes.specs.declared.Action.the-variants.{Acknowledge, Suppress}
 use Rattle.changes.specs.declared.News.{News}
-
-abbrev pub actionOf : Action → Value.Action
-actionOf Acknowledge = acknowledging
-actionOf Suppress = suppressing
 
 -- a payload that holds an alarm holds what f makes of it afterwards
 abbrev pub Turns : (Alarm → Alarm) → Bytes → Bytes → Type 0

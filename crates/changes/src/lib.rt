@@ -7,17 +7,12 @@ ghost use Rattle.definition.specs.Book.{payloadWidth};
 ghost use Rattle.definition.specs.Record.{lastActive, alarmBytes, readAlarm};
 ghost use Rattle.definition.specs.Steps.{updatedState, clearedBy, actionState, actedOn, expiredBy};
 ghost use Rattle.definition.specs.Alarm.{withText, withDetails};
-ghost use Rattle.model.specs.Meaning.{part, optPart, within, optWithin};
+ghost use Rattle.model.specs.Meaning.{part, optPart, within, optWithin, actionOf};
 ghost use Rattle.history.specs.Meaning.{IsAlarm};
-ghost use Rattle.changes.specs.Meaning.{actionOf, Turns, NewsWithin, newsOf, updatedWith};
+ghost use Rattle.changes.specs.Meaning.{Turns, NewsWithin, newsOf, updatedWith};
+use model::Action;
 use model::OptSpan;
 use model::Span;
-
-// What may be done to an active alarm by operations 3 to 6.
-pub enum Action {
-    Acknowledge,
-    Suppress,
-}
 
 // ---- "Plain 3, 4": the state of the action, and the later time
 

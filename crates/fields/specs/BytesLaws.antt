@@ -29,20 +29,20 @@ module _ (call : Bytes) (i : ℕ) where
   unfolding bytes
   bytes-read n h = record { out = rw (le-leb n (length (drop i call)) (omega (arith, length-drop i call)), drop-drop n i call) }
 
-bytesFrom-le : (q : Cursor) (n : ℕ) → bytesFrom q n ≤ n
-bytesFrom-le (At i) n = omega arith
-bytesFrom-le (Fault k) n = omega arith
+bytes-from-le : (q : Cursor) (n : ℕ) → bytesFrom q n ≤ n
+bytes-from-le (At i) n = omega arith
+bytes-from-le (Fault k) n = omega arith
 
 pub part-small : (call : Bytes) (p : Span) (q : Cursor) (n : ℕ) → within call (bytesFrom q n) p → length (part call p) ≤ n
-part-small call p q n w = rw (length-take) (omega (arith, bytesFrom-le q n))
+part-small call p q n w = rw (length-take) (omega (arith, bytes-from-le q n))
 
 pub below-power : {v m n : ℕ} → m ≤ n → v < 256 ^ m → v < 256 ^ n
 below-power h k = lt-of-lt-of-le k (pow-le-pow-right {n = 256} (omega arith) h)
 
 -- bytes that are asked for within a limit are within it
-pub bytesFrom-checked : (q : Cursor) (n limit k : ℕ) → bytesFrom (checked q (leb n limit) k) n ≤ limit
+pub bytes-from-checked : (q : Cursor) (n limit k : ℕ) → bytesFrom (checked q (leb n limit) k) n ≤ limit
 unfolding checked
-bytesFrom-checked q n limit k = go (leb n limit) refl q
+bytes-from-checked q n limit k = go (leb n limit) refl q
   where
     go : (b : Bool) → leb n limit ≡ b → (q : Cursor) → bytesFrom (checked q b k) n ≤ limit
     go true e (At i) = leb-true n limit e

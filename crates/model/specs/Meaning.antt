@@ -7,6 +7,9 @@ use Rattle.octets.specs.Bytes.{Bytes}
 use Rattle.definition.specs.Limits.{shortLimit, causeLimit, regionLimit}
 use Rattle.definition.specs.Cause.{names, other}
 use Rattle.definition.specs.Value.{ObjectValue, nfInstance, interface, peer, sessionStore, slice, tenant, certificate, dataPlaneQueue, PlacesValue, KeyValue}
+use Rattle.definition.specs.Value as Value
+use Rattle.model.specs.declared.Action.{Action}
+use Rattle.model.specs.declared.Action.the-variants.{Acknowledge, Suppress}
 use Rattle.model.specs.declared.Span.{Span}
 use Rattle.model.specs.declared.OptSpan.{OptSpan}
 use Rattle.model.specs.declared.OptSpan.the-variants.{Absent, Present}
@@ -81,3 +84,9 @@ pub record KeyWithin (call : Bytes) (k : KeyFields) : Type 0 where
   pub cause : causeWithin call (k .cause)
   pub object : objectWithin call (k .object)
   pub places : PlacesWithin call (k .places)
+
+-- ---- actions
+
+abbrev pub actionOf : Action → Value.Action
+actionOf Acknowledge = Value.acknowledging
+actionOf Suppress = Value.suppressing

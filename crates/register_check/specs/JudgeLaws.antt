@@ -22,8 +22,8 @@ use Rattle.definition.specs.Contracts.LegalBook.{chain}
 use Rattle.register_check.specs.Meaning.{EndsAt, Chain, Headed, Heads, passes, number}
 use Rattle.register_check.specs.declared.Kind.{Kind}
 use Rattle.register_check.specs.declared.Kind.the-variants.{Active, History, Audit, Free}
-use Rattle.register_check.specs.declared.Header.{Header}
-use Rattle.register_check.specs.declared.Header.the-variants.{Wrong}
+use Rattle.register_check.specs.declared.HeaderVerdict.{HeaderVerdict}
+use Rattle.register_check.specs.declared.HeaderVerdict.the-variants.{Wrong}
 use Rattle.register_check.specs.declared.Walked.{Walked}
 use Rattle.register_check.specs.declared.Walked.the-variants.{End, Broken}
 
@@ -41,8 +41,8 @@ tail-decides b true h e =
     blank→zeros _ (subst (λ (x : Bool). T x) e tt) ∙ ap zeros (part-length b 60 1476 (omega arith))
 tail-decides b false h e = λ z. subst (λ (x : Bool). T x) (sym (blank-zeros 1476) ∙ ap blank (sym z) ∙ sym e) tt
 
-pub found : (b : Bytes) {h g : Header} → h ≡ g → Heads h b → Heads g b
-found b e p = subst (λ (x : Header). Heads x b) e p
+pub found : (b : Bytes) {h g : HeaderVerdict} → h ≡ g → Heads h b → Heads g b
+found b e p = subst (λ (x : HeaderVerdict). Heads x b) e p
 
 -- ---- the last records
 

@@ -15,8 +15,8 @@ use Rattle.register_check.specs.declared.Soundness.the-variants.{Sound, 
 use Rattle.register_check.specs.declared.Lasts.{Lasts}
 use Rattle.register_check.specs.declared.Kind.{Kind}
 use Rattle.register_check.specs.declared.Kind.the-variants.{Active, History, Audit, Free}
-use Rattle.register_check.specs.declared.Header.{Header}
-use Rattle.register_check.specs.declared.Header.the-variants.{Capacity, Wrong}
+use Rattle.register_check.specs.declared.HeaderVerdict.{HeaderVerdict}
+use Rattle.register_check.specs.declared.HeaderVerdict.the-variants.{Capacity, Wrong}
 use Rattle.register_check.specs.declared.Walked.{Walked}
 use Rattle.register_check.specs.declared.Walked.the-variants.{End, Broken}
 
@@ -74,6 +74,6 @@ pub record Headed (b : Bytes) (m : ℕ) : Type 0 where
   pub tail : take 1476 (drop 60 b) ≡ zeros 1476
 
 -- the header's room; or no room makes it right
-abbrev pub Heads : Header → Bytes → Type 0
+abbrev pub Heads : HeaderVerdict → Bytes → Type 0
 Heads (Capacity m) b = Headed b m
 Heads Wrong b = (m : ℕ) → Headed b m → ⊥

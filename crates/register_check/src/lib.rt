@@ -36,7 +36,7 @@ enum Kind {
 }
 
 // How many records a register's header has room for, if the header is as it should be.
-enum Header {
+enum HeaderVerdict {
     Capacity(u32),
     Wrong,
 }
@@ -184,29 +184,29 @@ fn counts_ok(register: &[u8], a: u32, h: u32, e: u32) -> bool
 }
 
 // The header's numbers, the register's length, and zeros behind the numbers.
-fn header(register: &[u8]) -> Header
+fn header(register: &[u8]) -> HeaderVerdict
     ensures { λ r. ⌜ Heads r (now (register .entry)) ⌝ }
 {
     if register.len() < Record::WIDTH {
-        return Header::Wrong;
+        return HeaderVerdict::Wrong;
     }
     let a = octets::get32(register, 0);
     let h = octets::get32(register, 4);
     let e = octets::get32(register, 8);
     if !limits_ok(a, h, e) {
-        return Header::Wrong;
+        return HeaderVerdict::Wrong;
     }
     if !counts_ok(register, a, h, e) {
-        return Header::Wrong;
+        return HeaderVerdict::Wrong;
     }
     let capacity = a + h + e;
     if register.len() != Record::WIDTH * (capacity as usize + 1) {
-        return Header::Wrong;
+        return HeaderVerdict::Wrong;
     }
     if !octets::is_blank(&register[60..Record::WIDTH]) {
-        return Header::Wrong;
+        return HeaderVerdict::Wrong;
     }
-    Header::Capacity(capacity)
+    HeaderVerdict::Capacity(capacity)
 }
 
 // ---- the register
@@ -267,7 +267,7 @@ pub fn check(register: &[u8]) -> Soundness
     ensures { λ r. ⌜ Gives r (now (register .entry)) ⌝ }
 {
     let found = header(register);
-    let Header::Capacity(capacity) = found else {
+    let HeaderVerdict::Capacity(capacity) = found else {
         return Soundness::Unsound;
     };
     let mut ruler = [255u8; RULER];

@@ -12,7 +12,7 @@ ghost use Rattle.reply.specs.Meaning.{Replies};
 ghost use Rattle.operations.specs.Meaning.{Standing};
 ghost use Rattle.station.specs.Meaning.{numberIn, lengthIn};
 use call::Parsed;
-use changes::Action;
+use model::Action;
 use model::Record;
 use register_check::Lasts;
 use register_check::Soundness;

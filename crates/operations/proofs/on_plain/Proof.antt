@@ -2,7 +2,7 @@
 use native.Mathlib.Omega.{arith}
 use borrow.Author.Needs.{needs}
 use denote.Ref.{now}
-use Rattle.changes.specs.Meaning.{actionOf}
+use Rattle.model.specs.Meaning.{actionOf}
 use Rattle.call.specs.Meaning.{plainValue}
 use Rattle.reply.specs.declared.Reply.the-variants.{Answered}
 use Rattle.operations.specs.RoomLaws.{no-room, room, plains}

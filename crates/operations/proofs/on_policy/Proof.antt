@@ -2,8 +2,8 @@
 use native.Mathlib.Omega.{arith}
 use borrow.Author.Needs.{needs}
 use denote.Ref.{now}
-use Rattle.changes.specs.Meaning.{actionOf}
-use Rattle.policy_fields.specs.Meaning.{policyValue}
+use Rattle.model.specs.Meaning.{actionOf}
+use Rattle.action_fields.specs.Meaning.{policyValue}
 use Rattle.reply.specs.declared.Reply.the-variants.{Answered}
 use Rattle.operations.specs.RoomLaws.{no-room, room, policies}
 use Rattle.operations.proofs.on_policy.Statement.{statement}

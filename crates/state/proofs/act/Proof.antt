@@ -1,6 +1,6 @@
 -- `act`: the payload is taken out, changed and put back; the answer is the alarm.
 use borrow.Author.Needs.{needs}
-use Rattle.changes.specs.Meaning.{actionOf}
+use Rattle.model.specs.Meaning.{actionOf}
 use Rattle.state.specs.ActLaws.{acted-payload, acts}
 use Rattle.state.proofs.act.Statement.{statement}
 use Rattle.state.proofs.act.Tie as tie

@@ -6,8 +6,8 @@ use Rattle.definition.specs.Value.{acknowledging, suppressing}
 use Rattle.definition.specs.Steps.{notAuthorized}
 use Rattle.definition.specs.Answer.{Unauthorized, answerBytes}
 use Rattle.answers.specs.AnswerLaws.{answer-as}
-use Rattle.changes.specs.declared.Action.{Action}
-use Rattle.changes.specs.Meaning.{actionOf}
+use Rattle.model.specs.declared.Action.{Action}
+use Rattle.model.specs.Meaning.{actionOf}
 use Rattle.state.proofs.not_authorized.Statement.{statement}
 use Rattle.state.proofs.not_authorized.Tie as tie
 

@@ -8,7 +8,7 @@ use Rattle.definition.specs.Steps.{plain}
 use Rattle.state.specs.Meaning.{plainOf}
 use native.Mathlib.Omega.{arith}
 use borrow.Author.Needs.{needs}
-use Rattle.changes.specs.Meaning.{actionOf}
+use Rattle.model.specs.Meaning.{actionOf}
 use Rattle.state.specs.ActLaws.{answers-as, unauthorised}
 use Rattle.state.proofs.plain.Statement.{statement}
 use Rattle.state.proofs.plain.Tie as tie

@@ -5,7 +5,7 @@ use denote.Ref.{now}
 use Rattle.definition.specs.Alarm.{hasId}
 use Rattle.definition.specs.Laws.Steps.SoundStation.{sound-holds}
 use Rattle.history.specs.FoundLaws.{FoundAt, found-held, not-found}
-use Rattle.changes.specs.Meaning.{actionOf}
+use Rattle.model.specs.Meaning.{actionOf}
 use Rattle.state.specs.ActLaws.{on-found, on-none}
 use Rattle.state.proofs.plain_on.Statement.{statement}
 use Rattle.state.proofs.plain_on.Tie as tie

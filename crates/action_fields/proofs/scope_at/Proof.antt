@@ -4,8 +4,8 @@ use Rattle.definition.specs.Reader.{into}
 use Rattle.fields.specs.CursorLaws.{done, step}
 use borrow.Author.Tests.{ne-eqb}
 use borrow.Author.Needs.{needs}
-use Rattle.policy_fields.proofs.scope_at.Statement.{statement}
-use Rattle.policy_fields.proofs.scope_at.Tie as tie
+use Rattle.action_fields.proofs.scope_at.Statement.{statement}
+use Rattle.action_fields.proofs.scope_at.Tie as tie
 
 returns : tie.Need-returns
 unfolding scope scopeOf into

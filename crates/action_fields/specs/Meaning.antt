@@ -3,12 +3,12 @@ use Rattle.octets.specs.Bytes.{Bytes}
 use Rattle.definition.specs.Limits.{shortLimit, regionLimit, textLimit}
 use Rattle.definition.specs.Value.{ScopeValue, ActorValue, RequestValue, VerdictValue, PolicyValue}
 use Rattle.model.specs.Meaning.{part, optPart, within, optWithin}
-use Rattle.policy_fields.specs.declared.Scope.{Scope}
-use Rattle.policy_fields.specs.declared.Scope.the-variants as S
-use Rattle.policy_fields.specs.declared.Actor.{Actor}
-use Rattle.policy_fields.specs.declared.Request.{Request}
-use Rattle.policy_fields.specs.declared.Verdict.{Verdict}
-use Rattle.policy_fields.specs.declared.Policy.{Policy}
+use Rattle.action_fields.specs.declared.Scope.{Scope}
+use Rattle.action_fields.specs.declared.Scope.the-variants as S
+use Rattle.action_fields.specs.declared.Actor.{Actor}
+use Rattle.action_fields.specs.declared.Request.{Request}
+use Rattle.action_fields.specs.declared.Verdict.{Verdict}
+use Rattle.action_fields.specs.declared.Policy.{Policy}
 
 -- ---- values
 

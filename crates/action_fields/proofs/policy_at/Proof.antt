@@ -2,8 +2,8 @@
 use Rattle.definition.specs.Parse.{policyFields}
 use Rattle.fields.specs.CursorLaws.{done, step}
 use borrow.Author.Needs.{needs}
-use Rattle.policy_fields.proofs.policy_at.Statement.{statement}
-use Rattle.policy_fields.proofs.policy_at.Tie as tie
+use Rattle.action_fields.proofs.policy_at.Statement.{statement}
+use Rattle.action_fields.proofs.policy_at.Tie as tie
 
 returns : tie.Need-returns
 unfolding policyFields

@@ -8,7 +8,7 @@ ghost use Rattle.definition.specs.Limits.{regionLimit};
 ghost use Rattle.definition.specs.Parse.{scope, actor, request, verdict, policyFields};
 ghost use Rattle.fields.specs.Cursor.{Reads};
 ghost use Rattle.model.specs.Meaning.{within};
-ghost use Rattle.policy_fields.specs.Meaning.{scopeValue, actorValue, requestValue, verdictValue, policyValue, scopeWithin, ActorWithin, RequestWithin, PolicyWithin};
+ghost use Rattle.action_fields.specs.Meaning.{scopeValue, actorValue, requestValue, verdictValue, policyValue, scopeWithin, ActorWithin, RequestWithin, PolicyWithin};
 
 // What is asked for: one alarm by its id, the alarms of a tenant, or all.
 pub enum Scope {
