@@ -1,6 +1,6 @@
 # make test: all tests. make run: the examples, from a clone to the page of the book. make lib: the static library alone.
 # make compare: the long comparison with the model and the Rust. make bench: the register and the Rust measured side by
-# side. make wrong: the wrong answers of docs/CLAIMS.md, which the prover must refuse. make fmt: the layout of every Rattle
+# side. make wrong: the wrong answers of docs/WRONG.md, which the prover must refuse. make fmt: the layout of every Rattle
 # and antt file.
 .PHONY: test lib run compare bench wrong fmt
 

@@ -15,7 +15,7 @@ RECORD, BOOK = "crates/definition/specs/Record.antt", "crates/definition/specs/B
 LIMITS, MODEL = "crates/definition/specs/Limits.antt", "crates/model/src/lib.rt"
 CODE, SPECS, LAWS = "crates/octets/src/lib.rt", "crates/octets/specs/Bytes.antt", "crates/octets/specs/BoolLaws.antt"
 VECTORS = "crates/sha256_vectors/stdout"
-JSON, PAGE, CLAIMS = "docs/layout.json", "docs/LAYOUT.md", "docs/CLAIMS.md"
+JSON, PAGE, CLAIMS, ARCHITECTURE = "docs/layout.json", "docs/LAYOUT.md", "docs/CLAIMS.md", "docs/ARCHITECTURE.md"
 HEADER, WRONG = "include/alarm_register.h", "tests/wrong/octets.txt"
 
 # For each check: what is damaged, in which file, the pattern, and what takes its place.
@@ -78,6 +78,7 @@ DAMAGES = {
     (repository, "crates are listed"): [
         ("a crate left out", "crates.txt", r"^octets:.*\n", ""),
         ("a crate that is not there", "crates.txt", r"\Z", "nowhere:\n"),
+        ("a crate before what it depends on", "crates.txt", r"^(octets:.*\n)(fips180:.*\n)", r"\2\1"),
     ],
     (repository, "public functions have an ensures"): [
         ("a function with none", CODE, r"\Z", "pub fn extra(a: u8) -> u8 {\n    a\n}\n"),
@@ -103,8 +104,9 @@ DAMAGES = {
     (repository, "definitions cite no law"): [
         ("a law that is cited", LIMITS, r"\Z", "use Rattle.definition.specs.Laws.Text.Cause.{cause-length}\n"),
     ],
-    (repository, "README lists the crates"): [
-        ("a row left out", "README.md", r"^\| `octets` .*\n", ""),
+    (repository, "ARCHITECTURE lists the crates by level"): [
+        ("a row left out", ARCHITECTURE, r"^\| \w* ?\| `fips180` .*\n", ""),
+        ("a crate on another level", ARCHITECTURE, r"^\| entries \| `station`", "| | `station`"),
     ],
     (repository, "claims are there, one for each public function"): [
         ("a theorem that is not there", CLAIMS, r"`published`", "`publicised`"),
@@ -114,12 +116,18 @@ DAMAGES = {
         ("a function that is not there", WRONG, r"^== get16:", "== get17:"),
         ("a text that is not there", WRONG, r"^- let mut i = 0;", "- let mut i = 2;"),
     ],
+    (repository, "the page of wrong answers is theirs"): [
+        ("a wrong answer that was renamed", WRONG, r"^(== get16: half) of the bytes", r"\1 of its bytes"),
+        ("a row left out", "docs/WRONG.md", r"^\| `get16` .*\n", ""),
+        ("a must-fail edit that says something else", "crates/octets/must-fail/number_weight.edit", r"256 times", "255 times"),
+    ],
     (repository, "sentences have their definitions"): [
         ("a definition renamed", "crates/definition/specs/Steps.antt", r"\bmakeRoom\b", "makePlace"),
         ("a file that states nothing", "docs/SENTENCES.md", r"(`keyOf`; .*\| )`Key.antt`", r"\1`Cause.antt`"),
     ],
     (repository, "paths in documents are there"): [
         ("a path to nothing", "README.md", r"\Z", "See docs/NOWHERE.md.\n"),
+        ("a law that is nowhere", ARCHITECTURE, r"\Z", "See `Laws/Text/Nowhere.antt`.\n"),
     ],
     (repository, "vectors are Python's"): [
         ("a digest", VECTORS, r"^e3b0c44298fc1c14", "e3b0c44298fc1c15"),
@@ -133,7 +141,7 @@ DAMAGES = {
 
 def copied(folder):
     """A copy of what the checks read."""
-    for name in ("crates", "docs", "tests", "compare", "include", "rust", ".ci"):
+    for name in ("crates", "docs", "tests", "compare", "include", "rust", "examples", "bench", ".ci"):
         shutil.copytree(HERE / name, folder / name, ignore=shutil.ignore_patterns("__pycache__", "target"))
     for name in ("crates.txt", "README.md", "NOTICE"):
         shutil.copy(HERE / name, folder / name)

@@ -8,6 +8,7 @@ import sys
 import tempfile
 
 import wrong
+import wrong_page
 from checklist import Skip, run
 
 # Symbols that a reader of a contract takes for the library's, and the only module that may give them.
@@ -58,10 +59,23 @@ def line(text, at):
     return text.count("\n", 0, at) + 1
 
 
+def levels(root):
+    """The levels of crates.txt, each with its crates in order; a crate with what it depends on. A level begins with '# NAME: ..'."""
+    found = {}
+    for row in (root / "crates.txt").read_text(encoding="utf-8").splitlines():
+        head = re.match(r"# (\w+): ", row)
+        code, _, _ = row.partition("#")
+        if head:
+            level = found.setdefault(head.group(1), {})
+        elif ":" in code:
+            name, _, needs = code.partition(":")
+            level[name.strip()] = needs.split()
+    return found
+
+
 def listed(root):
     """The crates of crates.txt, in order."""
-    rows = (root / "crates.txt").read_text(encoding="utf-8").splitlines()
-    return [row.split(":")[0].strip() for row in rows if ":" in row]
+    return wrong_page.crates(root)
 
 
 def signature(text, at):
@@ -94,6 +108,12 @@ def crates(root):
     for name in names:
         if name not in folders:
             yield f"crates.txt lists {name}, and crates/{name} is not there"
+    done = []
+    for name, needs in (item for level in levels(root).values() for item in level.items()):
+        for need in needs:
+            if need in names and need not in done:
+                yield f"crates.txt lists {name} before {need}, which it depends on"
+        done.append(name)
 
 
 def promises(root):
@@ -160,13 +180,20 @@ def laws(root):
                 yield f"{path}:{line(text, found.start())}: {found.group(0)}"
 
 
-def readme(root):
-    """README.md's table of crates has each crate of crates.txt, and no other."""
-    text = (root / "README.md").read_text(encoding="utf-8")
-    found = re.search(r"^\| Crate \|.*\n\|[-| ]+\n((?:\|.*\n)*)", text, re.M)
-    rows = re.findall(r"^\| `(\w+)` \|", found.group(1), re.M) if found else []
-    if sorted(rows) != sorted(listed(root)):
-        yield f"README.md has {sorted(rows)}, crates.txt {sorted(listed(root))}"
+def architecture(root):
+    """docs/ARCHITECTURE.md's table of crates has the crates of crates.txt, level by level and in its order."""
+    text = (root / "docs/ARCHITECTURE.md").read_text(encoding="utf-8")
+    found = re.search(r"^\| Level \| Crate \|.*\n\|[-| ]+\n((?:\|.*\n)*)", text, re.M)
+    rows = re.findall(r"^\| (\w*) ?\| `(\w+)` \|", found.group(1), re.M) if found else []
+    for level, crates_of in levels(root).items():
+        for place, name in enumerate(crates_of):
+            want = ("" if place else level, name)
+            row = rows.pop(0) if rows else ("", "nothing")
+            if row != want:
+                yield f"docs/ARCHITECTURE.md has {row[1]} of {row[0] or 'the same level'} where crates.txt has {name} of {level}"
+                return
+    if rows:
+        yield f"docs/ARCHITECTURE.md has {rows[0][1]}, and crates.txt no more"
 
 
 def exported(root, path):
@@ -220,6 +247,12 @@ def answers(root):
                 yield f"tests/wrong/{path.name}: {edit.function}: {edit.answer}: {error}"
 
 
+def page(root):
+    """docs/WRONG.md is what tests/wrong_page.py writes."""
+    if (root / wrong_page.PAGE).read_text(encoding="utf-8") != wrong_page.page(root):
+        yield f"{wrong_page.PAGE} is not what tests/wrong_page.py writes: run it"
+
+
 def sentences(root):
     """Each definition that docs/SENTENCES.md names is in a file of its row, and each of these files has one of them."""
     for number, row in enumerate((root / "docs/SENTENCES.md").read_text(encoding="utf-8").splitlines(), 1):
@@ -239,13 +272,18 @@ def sentences(root):
             yield f"docs/SENTENCES.md:{number}: {name} is not in {', '.join(files)}"
 
 
+# Paths in documents: from the root or beside the document; the definition's folders of laws and of contracts' words are named from its specs.
+PATHS = re.compile(r"(?<![\w/.])(?:(?:crates|docs|tests|compare|rust(?!/target)|include|examples|bench|\.ci)/[\w./*-]*[\w*]"
+                   r"|(?:Laws|Contracts)/[\w/.]*\w|[A-Z]+\.md)(?![\w/])")
+
+
 def paths(root):
-    """Each path below crates/, docs/, tests/ or .ci/ that a document names is there."""
+    """Each path that a document names is there."""
+    specs = root / "crates/definition/specs"
     for path, text in texts(root, *DOCUMENTS):
-        names = re.finditer(r"(?<![\w/.])(?:(?:crates|docs|tests|\.ci)/[\w./*-]*[\w*]|[A-Z]+\.md)(?![\w/])", text)
-        for found in names:
+        for found in PATHS.finditer(text):
             name = found.group(0)
-            if not any(next(base.glob(name), None) for base in (root, (root / path).parent)):
+            if not any(next(base.glob(name), None) for base in (root, (root / path).parent, specs)):
                 yield f"{path}:{line(text, found.start())}: {name} is not there"
 
 
@@ -284,9 +322,10 @@ CHECKS = {
     "symbols are the library's": symbols,
     "the definition has no code": definition,
     "definitions cite no law": laws,
-    "README lists the crates": readme,
+    "ARCHITECTURE lists the crates by level": architecture,
     "claims are there, one for each public function": claims,
     "wrong answers fit the code": answers,
+    "the page of wrong answers is theirs": page,
     "sentences have their definitions": sentences,
     "paths in documents are there": paths,
     "vectors are Python's": vectors,

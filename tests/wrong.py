@@ -1,5 +1,5 @@
 #!/usr/bin/env python3
-"""Tries the wrong answers of docs/CLAIMS.md: changes of the code, each of which the prover must refuse because a fact fails.
+"""Tries the wrong answers of docs/WRONG.md: changes of the code, each of which the prover must refuse because a fact fails.
 
     make wrong                          those of all crates, which must be proved before (rt check)
     make wrong ARGS='octets cause'      those of some crates
