@@ -108,6 +108,10 @@ DAMAGES = {
         ("a row left out", ARCHITECTURE, r"^\| \w* ?\| `fips180` .*\n", ""),
         ("a crate on another level", ARCHITECTURE, r"^\| entries \| `station`", "| | `station`"),
     ],
+    (repository, "ARCHITECTURE follows a raise"): [
+        ("a function that is not there", ARCHITECTURE, r"key::key_of ", "key::key_off"),
+        ("a definition that is not there", ARCHITECTURE, r" updatedBy  ", " updatedBye "),
+    ],
     (repository, "claims are there, one for each public function"): [
         ("a theorem that is not there", CLAIMS, r"`published`", "`publicised`"),
         ("a public function left out", CLAIMS, r"`put_zeros`", "`put_bytes`"),

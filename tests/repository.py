@@ -196,6 +196,25 @@ def architecture(root):
         yield f"docs/ARCHITECTURE.md has {rows[0][1]}, and crates.txt no more"
 
 
+def raised(root):
+    """The functions and definitions on docs/ARCHITECTURE.md's way of a raise are there; a row's cells stand at least two blanks apart."""
+    text = (root / "docs/ARCHITECTURE.md").read_text(encoding="utf-8")
+    _, found, rest = text.partition("    Function  ")
+    rows = [re.split(r"  +", row.strip(" │├└─")) for row in rest[:re.search(r"\n\S", rest).start()].splitlines()[1:]] if found else []
+    if len(rows) < 9:
+        yield "docs/ARCHITECTURE.md shows no raise"
+    for cells in (cells for cells in rows if len(cells) > 2):
+        crate, mark, names = cells[0].partition("::")
+        sources = "\n".join(source for _, source in texts(root, f"crates/{crate}/src/**/*.rt")) if mark else ""
+        for name in names.split(", ") if mark else []:
+            if not re.search(rf"\bfn {name}\(", sources):
+                yield f"docs/ARCHITECTURE.md: {crate} has no function {name}"
+        specs = "\n".join(spec for file in cells[-1].split(", ") for _, spec in texts(root, f"crates/*/specs/{file}"))
+        for name in cells[1].split(", "):
+            if not re.search(rf"^ *(?:\w+ )*{name} :", specs, re.M):
+                yield f"docs/ARCHITECTURE.md: {cells[-1]} has no definition {name}"
+
+
 def exported(root, path):
     """Whether other crates see what a source file makes public: the crate's root, and modules that are public on the way to it."""
     folder, _, file = path.partition("/src/")
@@ -323,6 +342,7 @@ CHECKS = {
     "the definition has no code": definition,
     "definitions cite no law": laws,
     "ARCHITECTURE lists the crates by level": architecture,
+    "ARCHITECTURE follows a raise": raised,
     "claims are there, one for each public function": claims,
     "wrong answers fit the code": answers,
     "the page of wrong answers is theirs": page,
