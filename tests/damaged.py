@@ -1,5 +1,5 @@
 #!/usr/bin/env python3
-"""Damages a copy of the repository and sees that each check of layout.py, repository.py and header.py notices."""
+"""Damages a copy of the repository and sees that each check of layout.py, repository.py, pages.py and header.py notices."""
 import pathlib
 import re
 import shutil
@@ -8,6 +8,7 @@ import tempfile
 
 import header
 import layout
+import pages
 import repository
 from checklist import HERE, Skip, faults_of, run
 
@@ -104,15 +105,15 @@ DAMAGES = {
     (repository, "definitions cite no law"): [
         ("a law that is cited", LIMITS, r"\Z", "use Rattle.definition.specs.Laws.Text.Cause.{cause-length}\n"),
     ],
-    (repository, "ARCHITECTURE lists the crates by level"): [
+    (pages, "ARCHITECTURE lists the crates by level"): [
         ("a row left out", ARCHITECTURE, r"^\| \w* ?\| `fips180` .*\n", ""),
         ("a crate on another level", ARCHITECTURE, r"^\| entries \| `station`", "| | `station`"),
     ],
-    (repository, "ARCHITECTURE follows a raise"): [
+    (pages, "ARCHITECTURE follows a raise"): [
         ("a function that is not there", ARCHITECTURE, r"key::key_of ", "key::key_off"),
         ("a definition that is not there", ARCHITECTURE, r" updatedBy  ", " updatedBye "),
     ],
-    (repository, "claims are there, one for each public function"): [
+    (pages, "claims are there, one for each public function"): [
         ("a theorem that is not there", CLAIMS, r"`published`", "`publicised`"),
         ("a public function left out", CLAIMS, r"`put_zeros`", "`put_bytes`"),
     ],
@@ -120,16 +121,16 @@ DAMAGES = {
         ("a function that is not there", WRONG, r"^== get16:", "== get17:"),
         ("a text that is not there", WRONG, r"^- let mut i = 0;", "- let mut i = 2;"),
     ],
-    (repository, "the page of wrong answers is theirs"): [
+    (pages, "the page of wrong answers is theirs"): [
         ("a wrong answer that was renamed", WRONG, r"^(== get16: half) of the bytes", r"\1 of its bytes"),
         ("a row left out", "docs/WRONG.md", r"^\| `get16` .*\n", ""),
         ("a must-fail edit that says something else", "crates/octets/must-fail/number_weight.edit", r"256 times", "255 times"),
     ],
-    (repository, "sentences have their definitions"): [
+    (pages, "sentences have their definitions"): [
         ("a definition renamed", "crates/definition/specs/Steps.antt", r"\bmakeRoom\b", "makePlace"),
         ("a file that states nothing", "docs/SENTENCES.md", r"(`keyOf`; .*\| )`Key.antt`", r"\1`Cause.antt`"),
     ],
-    (repository, "paths in documents are there"): [
+    (pages, "paths in documents are there"): [
         ("a path to nothing", "README.md", r"\Z", "See docs/NOWHERE.md.\n"),
         ("a law that is nowhere", ARCHITECTURE, r"\Z", "See `Laws/Text/Nowhere.antt`.\n"),
     ],
@@ -173,7 +174,7 @@ def noticed(folder, check, path, pattern, new):
 
 def covered(_root):
     """Each check has a damage."""
-    for script in (layout, repository):
+    for script in (layout, repository, pages):
         for name in script.CHECKS:
             if not DAMAGES.get((script, name)):
                 yield f"{script.__name__}: {name}"

@@ -3,7 +3,7 @@
 
     python3 -B tests/wrong_page.py
 
-tests/repository.py sees that the page is what this script writes.
+tests/pages.py sees that the page is what this script writes.
 """
 import pathlib
 import re
