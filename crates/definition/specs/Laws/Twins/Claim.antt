@@ -24,6 +24,7 @@ use Rattle.definition.specs.Laws.Text.Parse.{call-legal}
 use Rattle.definition.specs.Laws.Twins.KeptLegal.{LegalStation, Answered, perform-legal, fresh-legalStation, self-twin, left-legal, right-legal, twin-blank}
 use Rattle.definition.specs.Sound.{encode, sound}
 use Rattle.definition.specs.Laws.Steps.SoundStation.{legal-reads, legal-sound}
+use Rattle.definition.specs.Laws.Steps.Replies.{on-sound}
 use Rattle.definition.specs.Laws.Steps.SideBySide.{Both, both, neither}
 use Rattle.definition.specs.Laws.Steps.Alike.{On, Told}
 use Rattle.definition.specs.Laws.Twins.TwinStations.{twin}
@@ -110,7 +111,9 @@ twin-reply b b′ t g g′ (neither k) = record { number = refl; sized = refl; s
 -- the reply from a legal station's bytes
 step-legal : (b : Bytes) (s : Station) (c : Bytes) (n : ℕ) → LegalStation s → b ≡ encode s → stepOf b c n ≡ replyOf b (perform (parseCall c) n s)
 unfolding stepOf
-step-legal b s c n l e = rw (e, holds (sound (encode s)) (legal-sound s l), legal-reads s l)
+step-legal b s c n l e =
+    let h : sound b ≡ true = rw e (holds (sound (encode s)) (legal-sound s l)) in
+    rw (on-sound, e, legal-reads s l)
 
 same-op : (c c′ : Bytes) → TwinCall c c′ → getD c 0 0 ≡ getD c′ 0 0
 same-op c c′ (equal p) = ap (λ (x : Bytes). getD x 0 0) p
