@@ -10,7 +10,8 @@ use lib.Dec.{T}
 use lib.ListN.{length, drop}
 use Rattle.octets.specs.Bytes.{Bytes, at32}
 use Rattle.octets.specs.Put.{Put}
-use Rattle.definition.specs.Chain.{Entry, onContent, entry, those, without, lastOf, times}
+use Rattle.definition.specs.Contracts.LegalBook.{lastOf}
+use Rattle.definition.specs.Chain.{Entry, onContent, entry, those, without, times}
 use Rattle.definition.specs.Laws.Book.Contents.{without-map}
 use Rattle.definition.specs.Alarm.{Alarm, isDue}
 use Rattle.definition.specs.Record.{lastState, alarmBytes, readAlarm}

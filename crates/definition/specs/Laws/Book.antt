@@ -7,7 +7,7 @@ pub mod Header
 pub mod ChangedChain
 pub mod Relink
 pub mod TransferBytes
-pub mod Read
+pub mod ReadBack
 pub mod SoundNumbers
 pub mod Transfer
 pub mod Append

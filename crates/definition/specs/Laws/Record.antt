@@ -3,7 +3,7 @@ pub mod Join
 pub mod Slot
 pub mod Object
 pub mod Scope
-pub mod Record
+pub mod Payloads
 pub mod ChangedSlot
 pub mod Identity
 pub mod FieldTests

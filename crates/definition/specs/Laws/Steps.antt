@@ -7,7 +7,7 @@ pub mod AnswerLength
 pub mod StationBook
 pub mod SoundStation
 pub mod MoveSteps
-pub mod Chains
+pub mod SoundChains
 pub mod Replies
 pub mod SideBySide
 pub mod PairedChains

@@ -7,7 +7,8 @@ use native.Mathlib.Decide.{ℕ-discrete}
 use lib.ListN.{length}
 use Rattle.octets.specs.Bytes.{Bytes, at32}
 use Rattle.definition.specs.Book.{recordOf, walk}
-use Rattle.definition.specs.Chain.{lastOf, times}
+use Rattle.definition.specs.Contracts.LegalBook.{lastOf}
+use Rattle.definition.specs.Chain.{times}
 use Rattle.definition.specs.Laws.Book.Occurrences.{last-on, times-hit, times-miss, times-nil, last-later}
 use Rattle.definition.specs.Contracts.Check.{Leads}
 

@@ -14,7 +14,7 @@ use Rattle.definition.specs.Alarm.{Alarm, withText, withDetails}
 use Rattle.definition.specs.Slot.{stringBytes, join}
 use Rattle.definition.specs.Laws.Record.Join.{offset, splice-join}
 use Rattle.definition.specs.Record.{alarmBytes}
-use Rattle.definition.specs.Laws.Record.Record.{alarmWidths, alarmPieces, alarm-fits}
+use Rattle.definition.specs.Laws.Record.Payloads.{alarmWidths, alarmPieces, alarm-fits}
 
 -- ---- a slot is replaced: whatever alarm was in the bytes b, the alarm that f makes of it is in the bytes c
 

@@ -16,7 +16,7 @@ use Rattle.definition.specs.Alarm.{Alarm, Event}
 use Rattle.definition.specs.Slot.{Slot, number, string, option}
 use Rattle.definition.specs.Record.{isRegion, anyBytes, short, causeSlot, regionSlot, detailsSlot, objectOk, scopeOk}
 use Rattle.definition.specs.Contracts.LegalFields.{Time, Maybe, BlobOf, TextOf, CauseOf, ObjectOf, LegalScope, LegalAlarm, LegalEvent}
-use Rattle.definition.specs.Laws.Record.Record.{legalAlarm, legalEvent}
+use Rattle.definition.specs.Laws.Record.Payloads.{legalAlarm, legalEvent}
 
 -- the test t says P
 pub record Says (t : Bool) (P : Type 0) : Type 0 where

@@ -18,7 +18,7 @@ use Rattle.definition.specs.Alarm.{Alarm, sameMaybe, sameNames, samePart
 use Rattle.definition.specs.Slot.{upTo, option, join, cut}
 use Rattle.definition.specs.Laws.Record.Join.{part-join, test-at, joined, joined-all}
 use Rattle.definition.specs.Record.{short, causeSlot, regionSlot, objectSlot, lastState, alarmBytes, readAlarm, soundAlarm}
-use Rattle.definition.specs.Laws.Record.Record.{alarmWidths, alarmPieces, alarm-fits, sound-legal-alarm}
+use Rattle.definition.specs.Laws.Record.Payloads.{alarmWidths, alarmPieces, alarm-fits, sound-legal-alarm}
 
 -- ---- the tests say that the values are equal
 

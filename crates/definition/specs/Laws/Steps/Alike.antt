@@ -14,7 +14,7 @@ use Rattle.definition.specs.Alarm.{Alarm}
 use Rattle.definition.specs.Station.{Station, Step, _>>=_, onActive, withActive, taking, addActive, freeActive, changeActive}
 use Rattle.definition.specs.Answer.{Answer, Raised, Updated}
 use Rattle.definition.specs.Steps.{intoHistory, updatedBy, newAlarm, clearedBy, actionAnswer, actedOn, expiredBy}
-use Rattle.definition.specs.Contracts.LegalStation.{Legal}
+use Rattle.definition.specs.Contracts.LegalStation.{LegalChains}
 use Rattle.definition.specs.Laws.Steps.LegalMoves.{Aside, legalActive, swap-in, swap-out, swap-replaced}
 use Rattle.definition.specs.Laws.Steps.LegalSteps.{said}
 use Rattle.definition.specs.Laws.Book.Occurrences.{length-without, length-replaced, length-last}
@@ -39,8 +39,8 @@ pub record Likeness : Type 1 where
 
 -- legal and alike, n active alarms in each; d and d′ were found on the active chains at the same places
 pub record On (k : Likeness) (n : ℕ) (d d′ : List (Entry Alarm)) (s t : Station) : Type 0 where
-  pub legal : Legal s
-  pub legal′ : Legal t
+  pub legal : LegalChains s
+  pub legal′ : LegalChains t
   pub size : length (s .active) ≡ n
   pub limit : s .limitA ≡ t .limitA
   pub pairs : AtEach (k .Pair) (s .active) (t .active)

@@ -7,7 +7,7 @@ use lib.ListN.{length, length-append}
 use Rattle.octets.specs.Bytes.{be32, be64}
 use Rattle.octets.specs.NumberLaws.{length-digits}
 use Rattle.definition.specs.Alarm.{Alarm, Event}
-use Rattle.definition.specs.Laws.Record.Record.{length-alarm, length-event}
+use Rattle.definition.specs.Laws.Record.Payloads.{length-alarm, length-event}
 use Rattle.definition.specs.Answer.{Answer, Raised, Updated, Cleared, ClearWithoutActive, ActiveLimitExceeded, Suppressed, Acknowledged, Unauthorized, AuditFailed, NotFound, Expired, Alarms, Counts, Summary, Events, Head, headBytes, headOf, alarmRecord, eventRecord, alarmRecords, eventRecords, body, answerBytes}
 use Rattle.definition.specs.Laws.Book.Contents.{length-map}
 use Rattle.definition.specs.Laws.Twins.Blank.{blank, blankAnswer}

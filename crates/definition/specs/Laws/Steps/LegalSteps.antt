@@ -11,7 +11,7 @@ use Rattle.definition.specs.Alarm.{Alarm, sameIdentity}
 use Rattle.definition.specs.Station.{Station, Outcome, Step, _>>=_, give, freeOldestHistory}
 use Rattle.definition.specs.Answer.{Answer, Raised, Updated, Cleared, ClearWithoutActive, ActiveLimitExceeded, Suppressed, Acknowledged, Unauthorized, AuditFailed, NotFound, Expired, Alarms, Counts, Summary, Events}
 use Rattle.definition.specs.Steps.{makeRoom, extendHistory, historyAfter, intoHistory, retire}
-use Rattle.definition.specs.Contracts.LegalStation.{Legal}
+use Rattle.definition.specs.Contracts.LegalStation.{LegalChains}
 use Rattle.definition.specs.Laws.Steps.LegalMoves.{Ends, ok, ends-after, ends-weaken, Aside, addHistory-legal, freeActive-legal, freeOldestHistory-legal, changeHistory-legal}
 
 cond-ends : {A : Type 0} {Q : A → Station → Type 0} {s : Station} (b : Bool) (m n : Step A) → Ends Q (m s) → Ends Q (n s) → Ends Q (cond b m n s)
@@ -25,7 +25,7 @@ aside-trans p q = record { legal = q .legal; same = q .same ∙ p .same; limit =
 then-aside : {A : Type 0} {s t : Station} {o : Outcome A} → Aside s t → Ends (λ u v. Aside t v) o → Ends (λ u v. Aside s v) o
 then-aside p e = ends-weaken e (λ u v q. aside-trans p q)
 
-module _ (s : Station) (l : Legal s) where
+module _ (s : Station) (l : LegalChains s) where
   makeRoom-legal : Ends (λ u t. Aside s t × (length (t .history) < t .limitH)) (makeRoom s)
   unfolding makeRoom _>>=_
   makeRoom-legal = go (leb (s .limitH) (length (s .history))) refl
@@ -72,8 +72,8 @@ lists x = eqb (said x .2) 8
 
 -- ---- a step on the active chain
 
-module _ (s : Station) (l : Legal s) where
-  pub retire-legal : (i : ℕ) (a : Alarm) → 1 ≤ times i (s .active) → Ends (λ u t. Legal t × (t .active ≡ without i (s .active)) × (t .limitA ≡ s .limitA)) (retire i a s)
+module _ (s : Station) (l : LegalChains s) where
+  pub retire-legal : (i : ℕ) (a : Alarm) → 1 ≤ times i (s .active) → Ends (λ u t. LegalChains t × (t .active ≡ without i (s .active)) × (t .limitA ≡ s .limitA)) (retire i a s)
   unfolding retire _>>=_
   retire-legal i a h =
       ends-after _ (freeActive-legal s l i h) (λ u t p.

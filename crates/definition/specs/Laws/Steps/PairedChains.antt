@@ -8,9 +8,9 @@ use native.Mathlib.Omega.{arith}
 use native.Mathlib.Decide.{decLt}
 use lib.ListN.{length}
 use borrow.Author.Tests.{eq-eqb, ne-eqb}
-use Rattle.definition.specs.Chain.{Entry, entry, those, first, without, replaced, times, timesIn, upFrom}
+use Rattle.definition.specs.Chain.{Entry, entry, those, first, without, replaced, times, upFrom}
 use Rattle.definition.specs.Station.{Station}
-use Rattle.definition.specs.Contracts.LegalStation.{records, Legal}
+use Rattle.definition.specs.Contracts.LegalStation.{records, LegalChains, timesIn}
 use Rattle.definition.specs.Laws.Book.Occurrences.{on-chain, times-hit, times-cons, upFrom-in, upFrom-range}
 use Rattle.definition.specs.Twins.{AtEach}
 
@@ -25,7 +25,7 @@ upFrom-once i n = elim (decLt 0 (timesIn i (upFrom 1 n))) [
   | no p ↦ omega arith
 ]
 
-pub distinct : (s : Station) → Legal s → Distinct (s .active)
+pub distinct : (s : Station) → LegalChains s → Distinct (s .active)
 distinct s l i = omega (arith, l .once i, upFrom-once i (records s))
 
 -- ---- records at the same places of two chains

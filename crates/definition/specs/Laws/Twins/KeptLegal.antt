@@ -11,10 +11,10 @@ use Rattle.definition.specs.Alarm.{Alarm}
 use Rattle.definition.specs.Station.{Station, fresh, Outcome, done, stopped}
 use Rattle.definition.specs.Answer.{Answer}
 use Rattle.definition.specs.Perform.{perform}
-use Rattle.definition.specs.Contracts.LegalStation.{Legal}
+use Rattle.definition.specs.Contracts.LegalStation.{LegalStation}
 use Rattle.definition.specs.Laws.Steps.LegalSteps.{said, lists}
 use Rattle.definition.specs.Laws.Steps.StationBook.{fresh-legal}
-use Rattle.definition.specs.Laws.Text.Kind.{kindOf, listing}
+use Rattle.definition.specs.Laws.Text.ParsedOperation.{kindOf, listing}
 use Rattle.definition.specs.Contracts.LegalFields.{Each, LegalAlarm, LegalEvent, LegalFields, LegalCall}
 use Rattle.definition.specs.Laws.Twins.Blank.{blankEntry, blankStation}
 use Rattle.definition.specs.Twins.{AtEach}
@@ -24,10 +24,6 @@ use Rattle.definition.specs.Laws.Steps.Alike.{On, Told}
 use Rattle.definition.specs.Laws.Twins.TwinStations.{TwinAt, twin}
 use Rattle.definition.specs.Laws.Twins.TwinSteps.{alike, perform-twin}
 use Rattle.definition.specs.Contracts.LegalBook.{Limit}
-
-pub record LegalStation (s : Station) : Type 0 where
-  pub chains : Legal s
-  pub fields : LegalFields s
 
 pub fresh-legalStation : (a h e : ℕ) → Limit a → Limit h → Limit e → LegalStation (fresh a h e)
 unfolding fresh

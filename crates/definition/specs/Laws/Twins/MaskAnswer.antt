@@ -16,7 +16,7 @@ use Rattle.definition.specs.Laws.Book.Contents.{length-map}
 use Rattle.definition.specs.Laws.Steps.LegalSteps.{lists}
 use Rattle.definition.specs.Laws.Twins.Blank.{blank, blankAnswer}
 use Rattle.definition.specs.Mask.{textsAt, textsWidth, maskRecord, maskRecords, listsRecords, holdsRecord, maskAnswer}
-use Rattle.definition.specs.Laws.Twins.Mask.{mask-payload}
+use Rattle.definition.specs.Laws.Twins.MaskRegister.{mask-payload}
 
 -- ---- records behind some bytes
 

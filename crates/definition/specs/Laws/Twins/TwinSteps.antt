@@ -23,7 +23,7 @@ use Rattle.definition.specs.Contracts.LegalFields.{Time, Each, LegalEven
 use Rattle.definition.specs.Laws.Steps.ChangedLegal.{event-legal}
 use Rattle.definition.specs.Laws.Steps.FieldMoves.{each-last}
 use Rattle.definition.specs.Laws.Steps.LegalMoves.{addAudit-legal, freeOldestAudit-legal, countSuccess-legal, countFailure-legal}
-use Rattle.definition.specs.Laws.Text.Kind.{kindOf}
+use Rattle.definition.specs.Laws.Text.ParsedOperation.{kindOf}
 use Rattle.definition.specs.Laws.Twins.Blank.{blank, blankAnswer}
 use Rattle.definition.specs.Twins.{AtEach}
 use Rattle.definition.specs.Laws.Steps.PairedChains.{length-each}

@@ -18,10 +18,11 @@ use Rattle.definition.specs.Laws.Book.BookTests.{limits-to}
 use Rattle.definition.specs.Opening.{Opened, opened, openOf}
 use Rattle.definition.specs.Perform.{inLength, perform}
 use Rattle.definition.specs.Laws.Steps.LegalSteps.{lists}
-use Rattle.definition.specs.Laws.Text.Kind.{kindOf, listing, Kind, kind, refuses, call-kind, lists-op}
+use Rattle.definition.specs.Laws.Text.ParsedOperation.{kindOf, listing, Kind, kind, refuses, call-kind, lists-op}
 use Rattle.definition.specs.Contracts.LegalFields.{LegalCall}
-use Rattle.definition.specs.Laws.Text.Parse.{call-legal}
-use Rattle.definition.specs.Laws.Twins.KeptLegal.{LegalStation, Answered, perform-legal, fresh-legalStation, self-twin, left-legal, right-legal, twin-blank}
+use Rattle.definition.specs.Laws.Text.ParsedLegal.{call-legal}
+use Rattle.definition.specs.Contracts.LegalStation.{LegalStation}
+use Rattle.definition.specs.Laws.Twins.KeptLegal.{Answered, perform-legal, fresh-legalStation, self-twin, left-legal, right-legal, twin-blank}
 use Rattle.definition.specs.Sound.{encode, sound}
 use Rattle.definition.specs.Laws.Steps.SoundStation.{legal-reads, legal-sound}
 use Rattle.definition.specs.Laws.Steps.Replies.{on-sound}
@@ -29,7 +30,7 @@ use Rattle.definition.specs.Laws.Steps.SideBySide.{Both, both, neither}
 use Rattle.definition.specs.Laws.Steps.Alike.{On, Told}
 use Rattle.definition.specs.Laws.Twins.TwinStations.{twin}
 use Rattle.definition.specs.Laws.Twins.TwinSteps.{size-twin, perform-twin}
-use Rattle.definition.specs.Laws.Twins.Mask.{mask-encode}
+use Rattle.definition.specs.Laws.Twins.MaskRegister.{mask-encode}
 use Rattle.definition.specs.Laws.Twins.MaskAnswer.{mask-answer}
 use Rattle.definition.specs.Mask.{maskRegister, maskAnswer, listsRecords}
 use Rattle.definition.specs.Lists.{Reply, replyOf, stepOf, run}
