@@ -1,7 +1,6 @@
 -- Steps on stations: what they keep, two of them side by side, and what the code of one promises.
 pub mod LegalMoves
 pub mod LegalSteps
-pub mod FieldMoves
 pub mod ChangedLegal
 pub mod AnswerLength
 pub mod StationBook

@@ -10,6 +10,7 @@ use lib.ListN.{length}
 use borrow.Author.Tests.{eq-eqb, ne-eqb}
 use Rattle.definition.specs.Chain.{Entry, entry, those, first, without, replaced, times, upFrom}
 use Rattle.definition.specs.Station.{Station}
+use Rattle.definition.specs.Contracts.LegalFields.{Each}
 use Rattle.definition.specs.Contracts.LegalStation.{records, LegalChains, timesIn}
 use Rattle.definition.specs.Laws.Book.Occurrences.{on-chain, times-hit, times-cons, upFrom-in, upFrom-range}
 use Rattle.definition.specs.Twins.{AtEach}
@@ -44,6 +45,10 @@ module _ {A : Type 0} where
   pub picked-right : {e e′ : Entry A} {d d′ c c′ : List (Entry A)} → Picked (e ∷ d) (e′ ∷ d′) c c′ → 1 ≤ times (e′ .index) c′
   picked-right {e′ = e} {c′ = x ∷ c} (picks p) = on-chain e c
   picked-right {e′ = e} {c′ = x ∷ c} (passes p) = omega (arith, picked-right p, times-cons x c (e .index))
+
+  pub picked-holds : (P : A → Type 0) {e e′ : Entry A} {d d′ c c′ : List (Entry A)} → Picked (e ∷ d) (e′ ∷ d′) c c′ → Each P c → Each P c′ → P (e .content) × P (e′ .content)
+  picked-holds P (picks p) h h′ = (h .0, h′ .0)
+  picked-holds P (passes p) h h′ = picked-holds P p (h .1) (h′ .1)
 
   pub picked-length : {d d′ c c′ : List (Entry A)} → Picked d d′ c c′ → length d ≡ length d′
   picked-length nothing = refl

@@ -22,7 +22,7 @@ use Rattle.definition.specs.Laws.Text.ParsedOperation.{kindOf, listing, 
 use Rattle.definition.specs.Contracts.LegalFields.{LegalCall}
 use Rattle.definition.specs.Laws.Text.ParsedLegal.{call-legal}
 use Rattle.definition.specs.Contracts.LegalStation.{LegalStation}
-use Rattle.definition.specs.Laws.Twins.KeptLegal.{Answered, perform-legal, fresh-legalStation, self-twin, left-legal, right-legal, twin-blank}
+use Rattle.definition.specs.Laws.Twins.KeptLegal.{Answered, perform-legal, fresh-legalStation, self-twin, twin-blank}
 use Rattle.definition.specs.Sound.{encode, sound}
 use Rattle.definition.specs.Laws.Steps.SoundStation.{legal-reads, legal-sound}
 use Rattle.definition.specs.Laws.Steps.Replies.{on-sound}
@@ -95,8 +95,8 @@ record TwinReply (op : ℕ) (q q′ : Reply) : Type 0 where
 
 twin-register : (b b′ : Bytes) → Twin b b′ → maskRegister b ≡ maskRegister b′
 twin-register b b′ t =
-    ap maskRegister (t .is-one) ∙ mask-encode (t .one) (t .on .legal) ∙ ap encode (twin-blank (t .on))
-    ∙ sym (ap maskRegister (t .is-two) ∙ mask-encode (t .two) (t .on .legal′))
+    ap maskRegister (t .is-one) ∙ mask-encode (t .one) (t .on .legal .chains) ∙ ap encode (twin-blank (t .on))
+    ∙ sym (ap maskRegister (t .is-two) ∙ mask-encode (t .two) (t .on .legal′ .chains))
 
 twin-reply : {i n op : ℕ} (b b′ : Bytes) → Twin b b′ → {o o′ : Outcome Answer} → Good op o → Good op o′ → Both (Told twin i n) o o′ → TwinReply op (replyOf b o) (replyOf b′ o′)
 twin-reply {op = op} b b′ t g g′ (both {a = x} {b = x′} q) = record {
@@ -151,8 +151,8 @@ twin-step : (b b′ c c′ : Bytes) (n n′ : ℕ) → Twin b b′ → Octets c 
 twin-step b b′ c c′ n n′ t o o′ w e =
     let s = t .one in
     let s′ = t .two in
-    rw (← e, step-legal b s c n (left-legal (t .on)) (t .is-one), step-legal b′ s′ c′ n (right-legal (t .on)) (t .is-two))
-    (twin-reply b b′ t (good-call c n s o (left-legal (t .on))) (rw (same-op c c′ w) (good-call c′ n s′ o′ (right-legal (t .on))))
+    rw (← e, step-legal b s c n (t .on .legal) (t .is-one), step-legal b′ s′ c′ n (t .on .legal′) (t .is-two))
+    (twin-reply b b′ t (good-call c n s o (t .on .legal)) (rw (same-op c c′ w) (good-call c′ n s′ o′ (t .on .legal′)))
     (perform-twin n (twins-read c c′ w) (call-legal c o) (call-legal c′ o′) .from s s′ (t .on)))
 
 twins : (b b′ : Bytes) (l l′ : List Made) → Twin b b′ → AllOctets l → AllOctets l′ → Trace b l → Trace b′ l′ → TwinLists (map asked l) (map asked l′) → AtEach Alike l l′
