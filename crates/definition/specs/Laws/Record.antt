@@ -3,7 +3,8 @@ pub mod Join
 pub mod Slot
 pub mod Object
 pub mod Scope
+pub mod FieldTests
+pub mod Parts
 pub mod Payloads
 pub mod ChangedSlot
 pub mod Identity
-pub mod FieldTests

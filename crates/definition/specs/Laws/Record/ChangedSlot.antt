@@ -20,7 +20,7 @@ use Rattle.definition.specs.Laws.Record.Payloads.{alarmWidths, alarmPiec
 
 -- the last argument but two is `λ a. refl` for each field
 pub slot-law :
-    (k : ℕ) (f : Alarm → Alarm) (v b c : Bytes) → k < 16 → length v ≡ getD alarmWidths k 0 → c ≡ splice b (offset alarmWidths k) v →
+    (k : ℕ) (f : Alarm → Alarm) (v b c : Bytes) → k < length alarmWidths → length v ≡ getD alarmWidths k 0 → c ≡ splice b (offset alarmWidths k) v →
     ((a : Alarm) → set (alarmPieces a) k v ≡ alarmPieces (f a)) → (a : Alarm) → b ≡ alarmBytes a → c ≡ alarmBytes (f a)
 unfolding alarmBytes
 slot-law k f v b c h l e changed a q =

@@ -11,7 +11,7 @@ use Rattle.definition.specs.Alarm.{Alarm, Event}
 use Rattle.definition.specs.Record.{alarmBytes, readAlarm, soundAlarm, eventBytes, readEvent, soundEvent}
 use Rattle.definition.specs.Laws.Record.Payloads.{read-alarm, sound-legal-alarm, legal-sound-alarm, read-event, sound-legal-event, legal-sound-event}
 use Rattle.definition.specs.Contracts.LegalFields.{Each, LegalAlarm, LegalEvent, LegalFields}
-use Rattle.definition.specs.Laws.Record.FieldTests.{says-alarm, says-event}
+use Rattle.definition.specs.Laws.Record.Payloads.{says-alarm, says-event}
 use Rattle.definition.specs.Book.{Record, Book, bookBytes, readBook, every, soundBook, freeRecord}
 use Rattle.definition.specs.Laws.Book.ReadBack.{read-bytes, sound-bytes}
 use Rattle.definition.specs.Laws.Book.BookTests.{sound-to, sound-from}
@@ -23,15 +23,15 @@ use Rattle.definition.specs.Contracts.LegalBook.{Zeroed, SoundBook}
 
 -- ---- what a record holds: how it is written, read and tested
 
-record Content (A : Type 0) : Type 1 where
-  put : A → Bytes
-  get : Bytes → A
-  Is : A → Type 0
-  test : Bytes → Bool
-  reads : (b : Bytes) → T (test b) → Is (get b) × (put (get b) ≡ b)
-  writes : (a : A) → Is a → T (test (put a)) × (get (put a) ≡ a)
+pub record Content (A : Type 0) : Type 1 where
+  pub put : A → Bytes
+  pub get : Bytes → A
+  pub Is : A → Type 0
+  pub test : Bytes → Bool
+  pub reads : (b : Bytes) → T (test b) → Is (get b) × (put (get b) ≡ b)
+  pub writes : (a : A) → Is a → T (test (put a)) × (get (put a) ≡ a)
 
-abbrev alarms : ℕ → Content Alarm
+abbrev pub alarms : ℕ → Content Alarm
 alarms top =
     record {
       put = alarmBytes;
@@ -42,7 +42,7 @@ alarms top =
       writes = λ a h. (let t = says-alarm top a .to h in (legal-sound-alarm top a t, read-alarm top a t));
     }
 
-abbrev events : Content Event
+abbrev pub events : Content Event
 events =
     record {
       put = eventBytes;
