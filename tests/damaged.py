@@ -13,6 +13,7 @@ from checklist import HERE, Skip, faults_of, run
 
 RECORD, BOOK = "crates/definition/specs/Record.antt", "crates/definition/specs/Book.antt"
 LIMITS, MODEL = "crates/definition/specs/Limits.antt", "crates/model/src/lib.rt"
+CONTRACTS = "crates/definition/specs/Contracts/Does.antt"
 CODE, SPECS, LAWS = "crates/octets/src/lib.rt", "crates/octets/specs/Bytes.antt", "crates/octets/specs/BoolLaws.antt"
 VECTORS = "crates/sha256_vectors/stdout"
 JSON, PAGE, CLAIMS = "docs/layout.json", "docs/LAYOUT.md", "docs/CLAIMS.md"
@@ -100,8 +101,11 @@ DAMAGES = {
         ("a declared type", LIMITS, r"\Z", "use Rattle.model.specs.declared.Span.{Span}\n"),
         ("a declared type in a cited file", SPECS, r"\Z", "use Rattle.octets.specs.declared.Cursor.{Cursor}\n"),
     ],
-    (repository, "definitions cite no law"): [
+    (repository, "definitions stand by themselves"): [
         ("a law that is cited", LIMITS, r"\Z", "use Rattle.definition.specs.Laws.Text.Cause.{cause-length}\n"),
+        ("a word of contracts that is cited", LIMITS, r"\Z", "use Rattle.definition.specs.Contracts.LegalBook.{Limit}\n"),
+        ("a law that a contract cites", CONTRACTS, r"\Z", "use Rattle.definition.specs.Laws.Text.Cause.{cause-length}\n"),
+        ("a law among the contracts", CONTRACTS, r"\Z", "\npub extra : 0 ≡ 0\nextra = refl\n"),
     ],
     (repository, "README lists the crates"): [
         ("a row left out", "README.md", r"^\| `octets` .*\n", ""),

@@ -153,10 +153,12 @@ def definition(root):
 
 
 def laws(root):
-    """What states document 01 stands beside Laws and cites nothing of it."""
+    """What states document 01 cites neither Laws nor Contracts, and Contracts no Laws. Neither holds a law: each line with a type has a mark."""
     for path, text in proofs(root):
-        if re.fullmatch(r"crates/definition/specs/\w+\.antt", path):
-            for found in re.finditer(r"\buse Rattle.definition\S*\.Laws\.\S*", text):
+        place = re.fullmatch(r"crates/definition/specs/(Contracts/)?\w+\.antt", path)
+        if place:
+            others = "Laws" if place.group(1) else "Laws|Contracts"
+            for found in re.finditer(rf"\buse Rattle.definition\S*\.(?:{others})\.\S*|^(?:pub )?\S+ :(?=\s)", text, re.MULTILINE):
                 yield f"{path}:{line(text, found.start())}: {found.group(0)}"
 
 
@@ -283,7 +285,7 @@ CHECKS = {
     "no hole and no axiom": holes,
     "symbols are the library's": symbols,
     "the definition has no code": definition,
-    "definitions cite no law": laws,
+    "definitions stand by themselves": laws,
     "README lists the crates": readme,
     "claims are there, one for each public function": claims,
     "wrong answers fit the code": answers,
