@@ -59,7 +59,7 @@ DAMAGES = {
     ],
     (layout, "header of the definition"): [
         ("an offset that is read", BOOK, r"\(at32 s 28\)", "(at32 s 36)"),
-        ("two words exchanged", BOOK, r"headOf \(b \.audit\) ∷ length \(b \.audit\)", "length (b .audit) ∷ headOf (b .audit)"),
+        ("two words exchanged", BOOK, r"firstOf \(b \.audit\) ∷ length \(b \.audit\)", "length (b .audit) ∷ firstOf (b .audit)"),
         ("the zeros behind", BOOK, r"zeros 1476", "zeros 1480"),
     ],
     (header, "offsets are the layout's"): [

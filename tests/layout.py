@@ -311,7 +311,7 @@ def header(root):
     yield from held_to(path, found, fields)
     words = re.search(r"^words b =\n(.*?)∷ \[\]", text, re.M | re.S)
     names = [re.sub(r"limit|[ .()]", "", item.strip().removeprefix("b ")) for item in words.group(1).split("∷")] if words else []
-    names = [re.sub(r"^(headOf|length)b(\w+)", lambda m: f"{m.group(2)}_{m.group(1).removesuffix('Of')}", name) for name in names]
+    names = [re.sub(r"^(firstOf|length)b(\w+)", lambda m: f"{m.group(2)}_{'head' if m.group(1) == 'firstOf' else 'length'}", name) for name in names]
     wanted = [name for name, (at, width) in sorted(fields.items(), key=lambda field: field[1]) if width == 4]
     if names != wanted:
         yield f"{path}: words are {names}, the layout has {wanted}"
