@@ -1,5 +1,5 @@
 -- What a check of the register looks at instead of "sound": the header's numbers, ways by links that end, and last records that differ.
--- Soundness.antt and Complete.antt: it comes to the same.
+-- Laws/Book/CheckSound and CheckComplete: it comes to the same. Words of the contracts of `register_check`.
 use mathlib.Core.Path.{_≡_}
 use Prim.Native.Nat.{ℕ, zero, suc, _+_, _*_, _≤_, _<_}
 use mathlib.Core.Bool.{Bool, true, false}

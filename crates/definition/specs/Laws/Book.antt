@@ -1,4 +1,5 @@
--- The register as chains of opaque payloads: legal books, the check of one, and the four moves.
+-- The register as chains of opaque payloads: legal books, the check of one, and the four moves. For the code of `register`, `register_check`
+-- and `model`, and for the laws of stations.
 pub mod Occurrences
 pub mod RecordAt
 pub mod Split

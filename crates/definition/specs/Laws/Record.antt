@@ -1,4 +1,4 @@
--- A record's slots: written, read back, tested, compared, changed.
+-- A record's slots: written, read back, tested, compared, changed. For the code that writes and tests records, and for the laws of stations.
 pub mod Join
 pub mod Slot
 pub mod Object

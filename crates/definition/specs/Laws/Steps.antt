@@ -2,7 +2,7 @@
 pub mod LegalMoves
 pub mod LegalSteps
 pub mod ChangedLegal
-pub mod AnswerLength
+pub mod Answers
 pub mod StationBook
 pub mod SoundStation
 pub mod MoveSteps

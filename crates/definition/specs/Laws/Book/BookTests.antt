@@ -1,4 +1,5 @@
--- The tests `legalBook` and `soundBook` say what the propositions say.
+-- The tests `legalBook` and `soundBook` say what the propositions `LegalBook` and `SoundBook` say. For the laws of stations (SoundStation), and for
+-- `model` and `register_check`.
 use mathlib.Core.Path.{_≡_, refl, sym, ap, _∙_, subst}
 use mathlib.Core.List.{List, [], _∷_}
 use mathlib.Core.Bool.{Bool, _&&_}

@@ -1,4 +1,4 @@
--- A sound register passes the check.
+-- A sound register passes the check. For `register_check`, and for loops along its links (LinkLoops).
 use mathlib.Core.Path.{_≡_, refl, sym, ap, _∙_, subst}
 use mathlib.Core.List.{List, [], _∷_, _++_, append-assoc}
 use Prim.Native.Nat.{ℕ, suc, _+_, _*_, _≤_, _<_}

@@ -1,4 +1,4 @@
--- The check's parts, put together: for functions that look at one after the other.
+-- The check's parts, put together: for the functions of `register_check`, which look at one after the other.
 use mathlib.Core.Path.{_≡_, refl, sym, subst}
 use mathlib.Core.Bool.{Bool, true, false, not}
 use Prim.Native.Nat.{ℕ, zero, suc, _+_, _*_, _≤_, _<_}

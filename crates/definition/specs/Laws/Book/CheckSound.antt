@@ -1,4 +1,5 @@
--- A register that passes the check is sound.
+-- A register that passes the check is sound: ways by links that end, have true lengths and different last records meet each record once. For
+-- `register_check`, and for code that follows links (`history`, `admin`).
 use mathlib.Core.Path.{_≡_, refl, sym, ap, ap₂, _∙_, subst}
 use mathlib.Core.List.{List, [], _∷_, _++_}
 use Prim.Native.Nat.{ℕ, zero, suc, _+_, _*_, _≤_, _<_}

@@ -1,4 +1,5 @@
--- Records that are reached by links: a way that ends in 0 passes no record twice, and two ways that meet end in one record.
+-- Records that are reached by links: a way that ends in 0 passes no record twice, and two ways that meet end in one record. For the check
+-- (CheckSound).
 use mathlib.Core.Path.{_≡_, refl, sym, ap, _∙_, subst}
 use mathlib.Core.List.{_∷_}
 use Prim.Native.Nat.{ℕ, zero, suc, _*_, _≤_, _<_}

@@ -1,4 +1,5 @@
--- Laws of a record that is changed in place: a splice of one slot is the alarm with one field changed, and a legal field keeps it legal.
+-- A record that is changed in place: a splice of one slot is the alarm with one field changed. For the writers of `record` and `build`, and for
+-- masked registers.
 use mathlib.Core.Path.{_≡_, refl, sym, ap, ap₂, _∙_}
 use mathlib.Core.List.{[], _∷_, _++_, append-assoc}
 use mathlib.Core.Option.{none}

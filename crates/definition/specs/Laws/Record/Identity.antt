@@ -1,4 +1,5 @@
--- History's sameness test looks at two stretches of an alarm's bytes: severity and state, and all from id to region.
+-- History's sameness test looks at two stretches of an alarm's bytes: severity and state, and all from id to region. For `record`, whose code
+-- compares just these.
 use mathlib.Core.Path.{_≡_, refl, sym, ap, ap₂, _∙_, subst}
 use mathlib.Core.List.{List, [], _∷_}
 use mathlib.Core.Bool.{Bool, true, cond, _&&_}

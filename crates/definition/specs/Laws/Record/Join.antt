@@ -1,4 +1,5 @@
--- Laws of slots one after the other: how to read one, how to replace one, and when all are the same. Each is over the list of widths.
+-- Slots one after the other: how to read one, how to replace one, and when all are the same. Each law is over the list of widths. For payloads
+-- and objects, and for the code of `build`, `record` and `record_check`.
 use mathlib.Core.Path.{_≡_, refl, sym, ap, ap₂, _∙_}
 use mathlib.Core.Bool.{Bool, true, false, _&&_}
 use mathlib.Core.List.{List, [], _∷_, _++_, append-assoc}

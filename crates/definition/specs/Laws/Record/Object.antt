@@ -1,4 +1,5 @@
--- Laws of an affected object's slot: its width, that a legal object is read back, and when the slot is sound, kind by kind.
+-- An affected object's slot: its width, that a legal object is read back, and when the slot is sound, kind by kind. For payloads, `build` and
+-- `record_check`.
 use mathlib.Core.Path.{_≡_, refl, sym, ap, ap₂, _∙_}
 use mathlib.Core.List.{[], _∷_}
 use mathlib.Core.Bool.{Bool, true, false, _&&_}

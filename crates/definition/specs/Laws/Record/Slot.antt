@@ -1,4 +1,5 @@
--- Laws of each kind of slot: its width, that a legal value is read back, and what soundness comes to.
+-- Each kind of slot: its width, that a legal value is read back, and what soundness comes to. For payloads, and for all code that reads,
+-- writes or tests a slot.
 use mathlib.Core.Path.{_≡_, refl, sym, ap, ap₂, _∙_, subst}
 use mathlib.Core.Bool.{Bool, true, false, _&&_}
 use mathlib.Core.List.{List, [], _∷_, _++_}

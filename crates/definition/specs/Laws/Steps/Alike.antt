@@ -18,7 +18,7 @@ use Rattle.definition.specs.Steps.{intoHistory, updatedBy, newAlarm, cle
 use Rattle.definition.specs.Contracts.LegalFields.{LegalAlarm}
 use Rattle.definition.specs.Contracts.LegalStation.{LegalStation}
 use Rattle.definition.specs.Laws.Steps.LegalMoves.{Aside, each-last, each-without, each-replaced, legalActive, swap-in, swap-out, swap-replaced}
-use Rattle.definition.specs.Laws.Steps.LegalSteps.{said}
+use Rattle.definition.specs.Laws.Steps.Answers.{said}
 use Rattle.definition.specs.Laws.Book.Occurrences.{length-without, length-replaced, length-last}
 use Rattle.definition.specs.Twins.{AtEach}
 use Rattle.definition.specs.Laws.Steps.PairedChains.{distinct, Picked, nothing, picked-left, picked-right, picked-holds, Search, missed, found, first-each, picked-each, length-each, last-each, without-each, replaced-each}

@@ -1,5 +1,5 @@
 -- Steps on two stations that are alike: one law for each step. Each says that both stations stay legal and alike, that a call is refused on
--- both with the same number, not 32, and that the active length moves by what is answered.
+-- both with the same number, not 32, and that the active length moves by what is answered. For the laws of calls on twins (TwinSteps).
 use Prim.Native.Nat.{ℕ, zero, suc, _+_}
 use mathlib.Core.Path.{_≡_, refl, ap, ap₂, _∙_, subst}
 use mathlib.Core.List.{List, [], _∷_}
@@ -20,7 +20,7 @@ use Rattle.definition.specs.Steps.{change, retire, updatedBy, newAlarm, 
 use Rattle.definition.specs.Perform.{inRecord}
 use Rattle.definition.specs.Contracts.LegalFields.{Time, LegalRaise}
 use Rattle.definition.specs.Laws.Steps.ChangedLegal.{past, updated-legal, new-legal, cleared-legal, acted-legal, expired-legal}
-use Rattle.definition.specs.Laws.Steps.LegalSteps.{said}
+use Rattle.definition.specs.Laws.Steps.Answers.{said}
 use Rattle.definition.specs.Laws.Book.Occurrences.{length-without}
 use Rattle.definition.specs.Laws.Steps.PairedChains.{nothing, picked-left, picked-length, those-each, picked-each, length-each}
 use Rattle.definition.specs.Laws.Steps.SideBySide.{Related, Only, give-related, look-related, refuse-related, cond-related, pre-related, known-related, never-related, post-related, bind-related, then-related, test-related}

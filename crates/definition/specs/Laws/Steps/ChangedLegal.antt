@@ -1,4 +1,5 @@
--- Each change of an alarm keeps its fields legal, and an event has legal fields.
+-- Each change of an alarm keeps its fields legal, and the events that steps make have legal fields. For the laws of steps, and for the code of
+-- these changes (`raising`, `state`, `expiry`, `history`, `build`).
 use Prim.Native.Nat.{ℕ, _≤_}
 use mathlib.Core.Option.{Option}
 use mathlib.Core.Bool.{Bool, true, false, cond}

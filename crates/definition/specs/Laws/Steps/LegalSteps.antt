@@ -1,15 +1,14 @@
--- The steps on a legal register.
+-- What goes into history keeps a station legal, and the active chain as it was. For the sweep of `expiry`, which retires alarms.
 use Prim.Native.Nat.{ℕ, _≤_, _<_}
 use mathlib.Core.Path.{_≡_, refl, _∙_}
 use mathlib.Core.Bool.{Bool, true, false, cond}
 use mathlib.Core.Option.{Option, none, some}
-use lib.Dec.{leb, eqb}
+use lib.Dec.{leb}
 use lib.ListN.{length}
 use borrow.Author.Tests.{leb-true, leb-false}
 use Rattle.definition.specs.Chain.{Entry, newest, without, times}
 use Rattle.definition.specs.Alarm.{Alarm, sameIdentity}
 use Rattle.definition.specs.Station.{Station, Outcome, Step, _>>=_, give, freeOldestHistory}
-use Rattle.definition.specs.Answer.{Answer, Raised, Updated, Cleared, ClearWithoutActive, ActiveLimitExceeded, Suppressed, Acknowledged, Unauthorized, AuditFailed, NotFound, Expired, Alarms, Counts, Summary, Events}
 use Rattle.definition.specs.Steps.{makeRoom, extendHistory, historyAfter, intoHistory, retire}
 use Rattle.definition.specs.Contracts.LegalFields.{LegalAlarm}
 use Rattle.definition.specs.Contracts.LegalStation.{LegalStation}
@@ -47,29 +46,6 @@ module _ (s : Station) (l : LegalStation s) where
   pub intoHistory-legal : (a : Alarm) → LegalAlarm 5 a → Ends (λ u t. Aside s t) (intoHistory a s)
   unfolding intoHistory _>>=_
   intoHistory-legal a p = historyAfter-legal a p (newest (s .history))
-
--- ---- what an answer says: how many alarms came onto the active chain, how many went off it, and of which kind it is:
--- 8 where alarms are listed, as operations 8 and 9 do, 7 for operation 7, and 0 else
-
-abbrev pub said : Answer → ℕ × ℕ × ℕ
-said (Raised a) = (1, 0, 0)
-said (Updated a) = (0, 0, 0)
-said (Cleared i) = (0, 1, 0)
-said (ClearWithoutActive k c) = (0, 0, 0)
-said (ActiveLimitExceeded k n) = (0, 0, 0)
-said (Suppressed a) = (0, 0, 0)
-said (Acknowledged a) = (0, 0, 0)
-said (Unauthorized m) = (0, 0, 0)
-said (AuditFailed m) = (0, 0, 0)
-said (NotFound i) = (0, 0, 0)
-said (Expired n) = (0, n, 7)
-said (Alarms l) = (0, 0, 8)
-said (Counts l) = (0, 0, 0)
-said (Summary t) = (0, 0, 0)
-said (Events l) = (0, 0, 0)
-
-abbrev pub lists : Answer → Bool
-lists x = eqb (said x .2) 8
 
 -- ---- a step on the active chain
 

@@ -1,4 +1,4 @@
--- Two chains with a relation at each place: what is found at the same places, changed, taken off and added.
+-- Two chains with a relation at each place: what is found at the same places, changed, taken off and added. For stations that are alike.
 use Prim.Native.Nat.{ℕ, suc, _≤_}
 use mathlib.Core.Path.{_≡_, refl, ap}
 use mathlib.Core.List.{List, [], _∷_, _++_}

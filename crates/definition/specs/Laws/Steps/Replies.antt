@@ -1,4 +1,4 @@
--- What the code of an operation promises, and the reply that the definition gives: they agree.
+-- What the code of an operation promises, and the reply that the definition gives, agree; and 22 comes before either. For `station`.
 use Prim.Native.Nat.{ℕ}
 use mathlib.Core.Path.{_≡_, refl, sym, _∙_}
 use mathlib.Core.Bool.{true, false}

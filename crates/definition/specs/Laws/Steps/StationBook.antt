@@ -1,4 +1,4 @@
--- A legal station and its book, which is legal too; a fresh one is.
+-- A legal station and its book, which is legal too; a fresh one is. For sound bytes (SoundStation) and opening (`model`).
 use Prim.Native.Nat.{ℕ, zero, suc, _+_, _≤_, _<_}
 use mathlib.Core.Path.{_≡_, refl, _∙_}
 use mathlib.Core.List.{List, [], _∷_, map}
@@ -15,7 +15,7 @@ use Rattle.definition.specs.Record.{alarmBytes, readAlarm, eventBytes, r
 use Rattle.definition.specs.Book.{Record, Book, capacity, total, freeRecord}
 use Rattle.definition.specs.Station.{Station, fresh}
 use Rattle.definition.specs.Sound.{bookOf, indexOf, stationOf}
-use Rattle.definition.specs.Contracts.LegalStation.{records, LegalChains, timesIn}
+use Rattle.definition.specs.Contracts.LegalStation.{records, LegalChains, timesIn, LegalStation}
 use Rattle.definition.specs.Contracts.LegalBook.{Limit, Sized, Zeroed, chain, limit, LegalBook}
 
 -- ---- contents do not matter
@@ -124,3 +124,7 @@ fresh-legal a h e p q r = record {
   once = λ i. omega arith;
   counters = (omega arith, omega arith);
 }
+
+pub fresh-legalStation : (a h e : ℕ) → Limit a → Limit h → Limit e → LegalStation (fresh a h e)
+unfolding fresh
+fresh-legalStation a h e p q r = record { chains = fresh-legal a h e p q r; fields = record { active = tt; history = tt; audit = tt } }

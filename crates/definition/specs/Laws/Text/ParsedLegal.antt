@@ -1,4 +1,4 @@
--- What the parser gives of a call's bytes has legal fields, and its refusals are below 30.
+-- What the parser gives of a call's bytes has legal fields, and its refusals are below 30. For the claim, and for `station`.
 use Prim.Native.Nat.{ℕ, _^_, _≤_, _<_}
 use mathlib.Core.Path.{_≡_, refl, _∙_}
 use mathlib.Core.List.{[], _∷_}

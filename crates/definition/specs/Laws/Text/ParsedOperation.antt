@@ -1,4 +1,4 @@
--- What a call is read as is a call of the operation that its first byte names, or a refusal.
+-- What a call is read as is a call of the operation that its first byte names, or a refusal. For masked answers, which go by the operation.
 use Prim.Native.Nat.{ℕ}
 use mathlib.Core.Path.{_≡_, refl, sym}
 use mathlib.Core.List.{[], _∷_}

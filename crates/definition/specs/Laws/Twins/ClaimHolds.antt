@@ -1,4 +1,4 @@
--- Demand 3's claim holds.
+-- Demand 3's claim holds. For the theorem on whole lists in `station`.
 use Prim.Native.Nat.{ℕ, _+_, _*_}
 use mathlib.Core.Path.{_≡_, refl, sym, ap, ap₂, _∙_, subst}
 use mathlib.Core.List.{List, [], _∷_, map}
@@ -17,12 +17,13 @@ use Rattle.definition.specs.Book.{isLimit}
 use Rattle.definition.specs.Laws.Book.BookTests.{limits-to}
 use Rattle.definition.specs.Opening.{Opened, opened, openOf}
 use Rattle.definition.specs.Perform.{inLength, perform}
-use Rattle.definition.specs.Laws.Steps.LegalSteps.{lists}
+use Rattle.definition.specs.Laws.Steps.Answers.{lists}
 use Rattle.definition.specs.Laws.Text.ParsedOperation.{kindOf, listing, Kind, kind, refuses, call-kind, lists-op}
 use Rattle.definition.specs.Contracts.LegalFields.{LegalCall}
 use Rattle.definition.specs.Laws.Text.ParsedLegal.{call-legal}
 use Rattle.definition.specs.Contracts.LegalStation.{LegalStation}
-use Rattle.definition.specs.Laws.Twins.KeptLegal.{Answered, perform-legal, fresh-legalStation, self-twin, twin-blank}
+use Rattle.definition.specs.Laws.Steps.StationBook.{fresh-legalStation}
+use Rattle.definition.specs.Laws.Twins.KeptLegal.{Answered, perform-legal, self-twin, twin-blank}
 use Rattle.definition.specs.Sound.{encode, sound}
 use Rattle.definition.specs.Laws.Steps.SoundStation.{legal-reads, legal-sound}
 use Rattle.definition.specs.Laws.Steps.Replies.{on-sound}

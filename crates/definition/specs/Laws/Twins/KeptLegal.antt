@@ -1,4 +1,4 @@
--- Legal stations stay legal, call after call, and twins stay twins.
+-- Every call on a legal station leaves a legal station, or is refused and not with 32; it is its own twin. For the claim, and for `station`.
 use Prim.Native.Nat.{ℕ, _+_, _≤_}
 use mathlib.Core.Path.{_≡_, refl, ap, ap₂}
 use mathlib.Core.List.{List, [], _∷_, map}
@@ -8,12 +8,11 @@ use lib.ListN.{length}
 use Rattle.definition.specs.Value.{CallValue, opOf}
 use Rattle.definition.specs.Chain.{Entry}
 use Rattle.definition.specs.Alarm.{Alarm}
-use Rattle.definition.specs.Station.{Station, fresh, Outcome, done, stopped}
+use Rattle.definition.specs.Station.{Station, Outcome, done, stopped}
 use Rattle.definition.specs.Answer.{Answer}
 use Rattle.definition.specs.Perform.{perform}
 use Rattle.definition.specs.Contracts.LegalStation.{LegalStation}
-use Rattle.definition.specs.Laws.Steps.LegalSteps.{said, lists}
-use Rattle.definition.specs.Laws.Steps.StationBook.{fresh-legal}
+use Rattle.definition.specs.Laws.Steps.Answers.{said, lists}
 use Rattle.definition.specs.Laws.Text.ParsedOperation.{kindOf, listing}
 use Rattle.definition.specs.Contracts.LegalFields.{LegalCall}
 use Rattle.definition.specs.Laws.Twins.Blank.{blankEntry, blankStation}
@@ -23,11 +22,6 @@ use Rattle.definition.specs.Laws.Steps.SideBySide.{Both, both, neither}
 use Rattle.definition.specs.Laws.Steps.Alike.{On, Told}
 use Rattle.definition.specs.Laws.Twins.TwinStations.{TwinAt, twin}
 use Rattle.definition.specs.Laws.Twins.TwinSteps.{alike, perform-twin}
-use Rattle.definition.specs.Contracts.LegalBook.{Limit}
-
-pub fresh-legalStation : (a h e : ℕ) → Limit a → Limit h → Limit e → LegalStation (fresh a h e)
-unfolding fresh
-fresh-legalStation a h e p q r = record { chains = fresh-legal a h e p q r; fields = record { active = tt; history = tt; audit = tt } }
 
 -- ---- a legal station is its own twin
 

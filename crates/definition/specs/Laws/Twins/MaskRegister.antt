@@ -1,4 +1,5 @@
--- Masking a register's bytes is blanking its station: both fields, their lengths and presence are zero, and nothing else changes.
+-- Masking a register's bytes is blanking its station: both fields, their lengths and presence are zero, and nothing else changes. For the
+-- claim.
 use Prim.Native.Nat.{ℕ, zero, suc, _+_, _*_, _≤_, _<_}
 use mathlib.Core.Path.{_≡_, refl, sym, ap, ap₂, _∙_}
 use mathlib.Core.List.{List, [], _∷_, _++_, map, append-assoc}

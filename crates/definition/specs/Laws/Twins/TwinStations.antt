@@ -16,7 +16,8 @@ use Rattle.definition.specs.Answer.{Raised, Updated, Acknowledged, Suppr
 use Rattle.definition.specs.Value.{Action, acknowledging, suppressing}
 use Rattle.definition.specs.Steps.{makeRoom, extendHistory, historyAfter, intoHistory, updatedBy, newAlarm, clearedBy, actionAnswer, actedOn, expiredBy}
 use Rattle.definition.specs.Laws.Steps.LegalMoves.{addHistory-legal, freeOldestHistory-legal, changeHistory-legal}
-use Rattle.definition.specs.Laws.Twins.Blank.{blank, blankAnswer}
+use Rattle.definition.specs.Laws.Steps.Answers.{blankAnswer}
+use Rattle.definition.specs.Laws.Twins.Blank.{blank}
 use Rattle.definition.specs.Twins.{AtEach}
 use Rattle.definition.specs.Laws.Steps.PairedChains.{length-each, last-each}
 use Rattle.definition.specs.Laws.Steps.SideBySide.{Match, meet, Related, Only, give-related, look-related, cond-both, pre-related, known-related, bind-related, then-related, test-related}

@@ -1,4 +1,4 @@
--- Every call on twins leaves twins: policy calls, reports, and all calls together.
+-- Every call on twins leaves twins: policy calls, reports, and all calls together. For the claim, and for KeptLegal.
 use Prim.Native.Nat.{ℕ}
 use mathlib.Core.Path.{_≡_, refl, sym, ap, ap₂, _∙_, subst}
 use mathlib.Core.List.{List, [], _∷_, _++_, map}
@@ -15,7 +15,7 @@ use Rattle.definition.specs.Laws.Book.Contents.{map-map, those-map}
 use Rattle.definition.specs.Alarm.{Alarm, Event, hasId, hasSeverity, inScope, isCritical}
 use Rattle.definition.specs.Station.{Station, Step, _>>_, give, forEach, addAudit, oldestAuditOf, freeOldestAudit, oneMore, countSuccess, countFailure}
 use Rattle.definition.specs.Answer.{Answer, Alarms, Counts, Summary, Events, answerBytes}
-use Rattle.definition.specs.Laws.Steps.AnswerLength.{size-blank}
+use Rattle.definition.specs.Laws.Steps.Answers.{size-blank, blankAnswer}
 use Rattle.definition.specs.Steps.{eventStored, eventLost, attempt, eventOf, deny, allow, needsOverride, policyAt, policy}
 use Rattle.definition.specs.Reports.{activeList, historyList, rating, tally, counts, severityOf, worst, worstImpact, summary, freeOne, takeAudit}
 use Rattle.definition.specs.Perform.{stepFor, inLength, asksRecord, inRoom, perform}
@@ -23,7 +23,7 @@ use Rattle.definition.specs.Contracts.LegalFields.{Time, LegalEvent, Leg
 use Rattle.definition.specs.Laws.Steps.ChangedLegal.{event-legal}
 use Rattle.definition.specs.Laws.Steps.LegalMoves.{addAudit-legal, freeOldestAudit-legal, countSuccess-legal, countFailure-legal}
 use Rattle.definition.specs.Laws.Text.ParsedOperation.{kindOf}
-use Rattle.definition.specs.Laws.Twins.Blank.{blank, blankAnswer}
+use Rattle.definition.specs.Laws.Twins.Blank.{blank}
 use Rattle.definition.specs.Twins.{AtEach}
 use Rattle.definition.specs.Laws.Steps.PairedChains.{length-each}
 use Rattle.definition.specs.Laws.Steps.SideBySide.{Match, meet, Related, Only, give-related, look-related, refuse-related, cond-related, cond-both, pre-related, known-related, bind-related, then-related, test-related}

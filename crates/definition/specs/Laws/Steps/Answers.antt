@@ -1,8 +1,11 @@
--- How long answers are: no text and no details count.
+-- What an answer says of the active chain, the answer without texts, and how long it is. For the laws of steps and twins, and for the code that
+-- writes answers (`answers`, `alarm_lists`, `metrics`, `audit_log`).
 use Prim.Native.Nat.{ℕ, _+_, _*_}
 use mathlib.Core.Path.{_≡_, refl, sym, ap, _∙_}
 use mathlib.Core.List.{List, [], _∷_, map}
+use mathlib.Core.Bool.{Bool}
 use native.Mathlib.Omega.{arith}
+use lib.Dec.{eqb}
 use lib.ListN.{length, length-append}
 use Rattle.octets.specs.Bytes.{be32, be64}
 use Rattle.octets.specs.NumberLaws.{length-digits}
@@ -10,7 +13,52 @@ use Rattle.definition.specs.Alarm.{Alarm, Event}
 use Rattle.definition.specs.Laws.Record.Payloads.{length-alarm, length-event}
 use Rattle.definition.specs.Answer.{Answer, Raised, Updated, Cleared, ClearWithoutActive, ActiveLimitExceeded, Suppressed, Acknowledged, Unauthorized, AuditFailed, NotFound, Expired, Alarms, Counts, Summary, Events, Head, headBytes, headOf, alarmRecord, eventRecord, alarmRecords, eventRecords, body, answerBytes}
 use Rattle.definition.specs.Laws.Book.Contents.{length-map}
-use Rattle.definition.specs.Laws.Twins.Blank.{blank, blankAnswer}
+use Rattle.definition.specs.Laws.Twins.Blank.{blank}
+
+-- ---- what an answer says: how many alarms came onto the active chain, how many went off it, and of which kind it is:
+-- 8 where alarms are listed, as operations 8 and 9 do, 7 for operation 7, and 0 else
+
+abbrev pub said : Answer → ℕ × ℕ × ℕ
+said (Raised a) = (1, 0, 0)
+said (Updated a) = (0, 0, 0)
+said (Cleared i) = (0, 1, 0)
+said (ClearWithoutActive k c) = (0, 0, 0)
+said (ActiveLimitExceeded k n) = (0, 0, 0)
+said (Suppressed a) = (0, 0, 0)
+said (Acknowledged a) = (0, 0, 0)
+said (Unauthorized m) = (0, 0, 0)
+said (AuditFailed m) = (0, 0, 0)
+said (NotFound i) = (0, 0, 0)
+said (Expired n) = (0, n, 7)
+said (Alarms l) = (0, 0, 8)
+said (Counts l) = (0, 0, 0)
+said (Summary t) = (0, 0, 0)
+said (Events l) = (0, 0, 0)
+
+abbrev pub lists : Answer → Bool
+lists x = eqb (said x .2) 8
+
+-- ---- without texts and details
+
+-- in answers of codes 1, 2, 6, 7 and ops 8, 9
+abbrev pub blankAnswer : Answer → Answer
+blankAnswer (Raised a) = Raised (blank a)
+blankAnswer (Updated a) = Updated (blank a)
+blankAnswer (Cleared i) = Cleared i
+blankAnswer (ClearWithoutActive k c) = ClearWithoutActive k c
+blankAnswer (ActiveLimitExceeded k n) = ActiveLimitExceeded k n
+blankAnswer (Suppressed a) = Suppressed (blank a)
+blankAnswer (Acknowledged a) = Acknowledged (blank a)
+blankAnswer (Unauthorized m) = Unauthorized m
+blankAnswer (AuditFailed m) = AuditFailed m
+blankAnswer (NotFound i) = NotFound i
+blankAnswer (Expired n) = Expired n
+blankAnswer (Alarms l) = Alarms (map blank l)
+blankAnswer (Counts l) = Counts l
+blankAnswer (Summary t) = Summary t
+blankAnswer (Events l) = Events l
+
+-- ---- how long an answer is: no text and no details count
 
 pub length-alarmRecord : (a : Alarm) → length (alarmRecord a) ≡ 1536
 length-alarmRecord a = length-append (be32 0) _ ∙ omega (arith, length-digits 4 0, length-alarm a)
