@@ -5,7 +5,7 @@ use mathlib.Core.Bool.{Bool}
 use Prim.Native.Nat.{ℕ, zero, suc, _+_}
 use lib.ListN.{take, drop}
 use Rattle.octets.specs.Bytes.{Bytes}
-use Rattle.definition.specs.Slot.{Slot, Field, sound, allOf, _holds_, widths, pieces, tests}
+use Rattle.definition.specs.Slot.{Slot, Field, soundSlot, allOf, _holds_, widths, pieces, tests}
 use Rattle.definition.specs.Laws.Record.Join.{Fits}
 use Rattle.definition.specs.Laws.Record.Slot.{Lawful}
 use Rattle.definition.specs.Laws.Record.FieldTests.{Says, always, says-and}
@@ -58,7 +58,7 @@ module _ {X : Type 0} where
   -- whether each slot is sound, the first at byte k
   abbrev pub soundFrom : ℕ → List (Part X) → Bytes → List Bool
   soundFrom k [] b = []
-  soundFrom k (l ∷ ls) b = sound (l .kind .slot) (take (l .kind .slot .width) (drop k b)) ∷ soundFrom (k + l .kind .slot .width) ls b
+  soundFrom k (l ∷ ls) b = soundSlot (l .kind .slot) (take (l .kind .slot .width) (drop k b)) ∷ soundFrom (k + l .kind .slot .width) ls b
 
 abbrev pub kindOf : {A : Type 0} (s : Slot A) → Lawful s → (P : A → Type 0) → ((a : A) → Says (s .ok a) (P a)) → Kind
 kindOf {A} s l P h = record { A = A; slot = s; lawful = l; Is = P; says = h }
