@@ -5,5 +5,5 @@ pub mod Trim
 pub mod Cause
 pub mod Key
 pub mod PutString
+pub mod ParsedFields
 pub mod ParsedLegal
-pub mod ParsedOperation

@@ -10,8 +10,8 @@ use Rattle.definition.specs.Laws.Record.Join.{Fits}
 use Rattle.definition.specs.Laws.Record.Slot.{Lawful}
 use Rattle.definition.specs.Laws.Record.FieldTests.{Says, always, says-and}
 
--- a slot that is lawful, and what its test says
-pub record Kind : Type 1 where
+-- a slot that is lawful, with what its test says
+pub record SlotKind : Type 1 where
   pub A : Type 0
   pub slot : Slot A
   pub lawful : Lawful slot
@@ -20,11 +20,11 @@ pub record Kind : Type 1 where
 
 -- a field of an X in such a slot
 pub record Part (X : Type 0) : Type 1 where
-  pub kind : Kind
+  pub kind : SlotKind
   pub of : X → kind .A
 
 infix 70 _keeps_
-abbrev pub _keeps_ : {X : Type 0} (k : Kind) → (X → k .A) → Part X
+abbrev pub _keeps_ : {X : Type 0} (k : SlotKind) → (X → k .A) → Part X
 _keeps_ k f = record { kind = k; of = f }
 
 module _ {X : Type 0} where
@@ -60,5 +60,5 @@ module _ {X : Type 0} where
   soundFrom k [] b = []
   soundFrom k (l ∷ ls) b = soundSlot (l .kind .slot) (take (l .kind .slot .width) (drop k b)) ∷ soundFrom (k + l .kind .slot .width) ls b
 
-abbrev pub kindOf : {A : Type 0} (s : Slot A) → Lawful s → (P : A → Type 0) → ((a : A) → Says (s .ok a) (P a)) → Kind
-kindOf {A} s l P h = record { A = A; slot = s; lawful = l; Is = P; says = h }
+abbrev pub slotKind : {A : Type 0} (s : Slot A) → Lawful s → (P : A → Type 0) → ((a : A) → Says (s .ok a) (P a)) → SlotKind
+slotKind {A} s l P h = record { A = A; slot = s; lawful = l; Is = P; says = h }

@@ -3,12 +3,15 @@
 use Prim.Native.Nat.{ℕ, _+_, _*_}
 use mathlib.Core.Path.{_≡_, refl, sym, ap, _∙_}
 use mathlib.Core.List.{List, [], _∷_, map}
-use mathlib.Core.Bool.{Bool}
+use mathlib.Core.Bool.{Bool, true, false, cond}
 use native.Mathlib.Omega.{arith}
 use lib.Dec.{eqb}
+use borrow.Author.Tests.{eqb-true}
 use lib.ListN.{length, length-append}
 use Rattle.octets.specs.Bytes.{be32, be64}
 use Rattle.octets.specs.NumberLaws.{length-digits}
+use Rattle.definition.specs.Value.{CallValue, opOf}
+use Rattle.definition.specs.Mask.{listsRecords}
 use Rattle.definition.specs.Alarm.{Alarm, Event}
 use Rattle.definition.specs.Laws.Record.Payloads.{length-alarm, length-event}
 use Rattle.definition.specs.Answer.{Answer, Raised, Updated, Cleared, ClearWithoutActive, ActiveLimitExceeded, Suppressed, Acknowledged, Unauthorized, AuditFailed, NotFound, Expired, Alarms, Counts, Summary, Events, Head, headBytes, headOf, alarmRecord, eventRecord, alarmRecords, eventRecords, body, answerBytes}
@@ -37,6 +40,25 @@ said (Events l) = (0, 0, 0)
 
 abbrev pub lists : Answer → Bool
 lists x = eqb (said x .2) 8
+
+-- the kind of an operation's answers
+abbrev pub kindOf : ℕ → ℕ
+kindOf op = cond (eqb op 7) 7 (cond (listsRecords op) 8 0)
+
+abbrev pub listing : CallValue → Bool
+listing c = eqb (kindOf (opOf c)) 8
+
+-- its answers list alarms for operations 8 and 9, and for no other
+pub lists-op : (op : ℕ) → eqb (kindOf op) 8 ≡ listsRecords op
+lists-op op = go (eqb op 7) refl
+  where
+    other : (b : Bool) → eqb (cond b 8 0) 8 ≡ b
+    other true = refl
+    other false = refl
+
+    go : (b : Bool) → eqb op 7 ≡ b → eqb (cond b 7 (cond (listsRecords op) 8 0)) 8 ≡ listsRecords op
+    go true p = rw (eqb-true op 7 p)
+    go false p = other (listsRecords op)
 
 -- ---- without texts and details
 

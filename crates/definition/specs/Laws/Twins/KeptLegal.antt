@@ -12,8 +12,7 @@ use Rattle.definition.specs.Station.{Station, Outcome, done, stopped}
 use Rattle.definition.specs.Answer.{Answer}
 use Rattle.definition.specs.Perform.{perform}
 use Rattle.definition.specs.Contracts.LegalStation.{LegalStation}
-use Rattle.definition.specs.Laws.Steps.Answers.{said, lists}
-use Rattle.definition.specs.Laws.Text.ParsedOperation.{kindOf, listing}
+use Rattle.definition.specs.Laws.Steps.Answers.{said, lists, kindOf, listing}
 use Rattle.definition.specs.Contracts.LegalFields.{LegalCall}
 use Rattle.definition.specs.Laws.Twins.Blank.{blankEntry, blankStation}
 use Rattle.definition.specs.Twins.{AtEach}

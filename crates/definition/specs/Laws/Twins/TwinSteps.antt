@@ -15,14 +15,13 @@ use Rattle.definition.specs.Laws.Book.Contents.{map-map, those-map}
 use Rattle.definition.specs.Alarm.{Alarm, Event, hasId, hasSeverity, inScope, isCritical}
 use Rattle.definition.specs.Station.{Station, Step, _>>_, give, forEach, addAudit, oldestAuditOf, freeOldestAudit, oneMore, countSuccess, countFailure}
 use Rattle.definition.specs.Answer.{Answer, Alarms, Counts, Summary, Events, answerBytes}
-use Rattle.definition.specs.Laws.Steps.Answers.{size-blank, blankAnswer}
+use Rattle.definition.specs.Laws.Steps.Answers.{size-blank, blankAnswer, kindOf}
 use Rattle.definition.specs.Steps.{eventStored, eventLost, attempt, eventOf, deny, allow, needsOverride, policyAt, policy}
 use Rattle.definition.specs.Reports.{activeList, historyList, rating, tally, counts, severityOf, worst, worstImpact, summary, freeOne, takeAudit}
 use Rattle.definition.specs.Perform.{stepFor, inLength, asksRecord, inRoom, perform}
 use Rattle.definition.specs.Contracts.LegalFields.{Time, LegalEvent, LegalPolicy, LegalCall}
 use Rattle.definition.specs.Laws.Steps.ChangedLegal.{event-legal}
 use Rattle.definition.specs.Laws.Steps.LegalMoves.{addAudit-legal, freeOldestAudit-legal, countSuccess-legal, countFailure-legal}
-use Rattle.definition.specs.Laws.Text.ParsedOperation.{kindOf}
 use Rattle.definition.specs.Laws.Twins.Blank.{blank}
 use Rattle.definition.specs.Twins.{AtEach}
 use Rattle.definition.specs.Laws.Steps.PairedChains.{length-each}
