@@ -31,7 +31,7 @@ always = record { from = λ t. tt; to = λ u. tt }
 pub says-le : (m n : ℕ) → Says (leb m n) (m ≤ n)
 says-le m n = record { from = leb→le m n; to = λ h. true-holds _ (le-leb m n h) }
 
-says-lt : (m n : ℕ) → Says (ltb m n) (m < n)
+pub says-lt : (m n : ℕ) → Says (ltb m n) (m < n)
 says-lt m n = record { from = ltb→lt m n; to = λ h. true-holds _ (lt-ltb m n h) }
 
 pub says-eq : (m n : ℕ) → Says (eqb m n) (m ≡ n)
