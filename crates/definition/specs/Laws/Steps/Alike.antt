@@ -55,8 +55,8 @@ pub record On (k : Likeness) (n : ℕ) (d d′ : List (Entry Alarm)) (s t : Stat
 -- answers of kind i that are alike, on stations that had n active alarms
 pub record Told (k : Likeness) (i n : ℕ) (x x′ : Answer) (s t : Station) : Type 0 where
   pub says : k .Says x x′
-  pub kind : said x .2 ≡ i
-  pub even : n + said x .0 ≡ length (s .active) + said x .1
+  pub kind : said x .kind ≡ i
+  pub even : n + said x .came ≡ length (s .active) + said x .went
   pub on : On k (length (s .active)) [] [] s t
 
 -- another raise of the same alarm, in other words

@@ -20,7 +20,7 @@ use Rattle.definition.specs.Steps.{change, retire, updatedBy, newAlarm, 
 use Rattle.definition.specs.Perform.{inRecord}
 use Rattle.definition.specs.Contracts.LegalFields.{Time, LegalRaise}
 use Rattle.definition.specs.Laws.Steps.ChangedLegal.{past, updated-legal, new-legal, cleared-legal, acted-legal, expired-legal}
-use Rattle.definition.specs.Laws.Steps.Answers.{said}
+use Rattle.definition.specs.Laws.Steps.Answers.{Said, tells, said}
 use Rattle.definition.specs.Laws.Book.Occurrences.{length-without}
 use Rattle.definition.specs.Laws.Steps.PairedChains.{nothing, picked-left, picked-length, those-each, picked-each, length-each}
 use Rattle.definition.specs.Laws.Steps.SideBySide.{Related, Only, give-related, look-related, refuse-related, cond-related, pre-related, known-related, never-related, post-related, bind-related, then-related, test-related}
@@ -36,15 +36,15 @@ module _ {k : Likeness} (l : Lasting k) where
   pub settled : {n : ℕ} {d d′ : List (Entry Alarm)} {s t : Station} → On k n d d′ s t → On k (length (s .active)) [] [] s t
   settled p = record { legal = p .legal; legal′ = p .legal′; size = refl; limit = p .limit; pairs = p .pairs; picked = nothing; rest = p .rest }
 
-  pub told : {i m n : ℕ} {d d′ : List (Entry Alarm)} {x x′ : Answer} → k .Says x x′ → said x .2 ≡ i → n + said x .0 ≡ m + said x .1 → (s t : Station) → On k m d d′ s t → Told k i n x x′ s t
+  pub told : {i m n : ℕ} {d d′ : List (Entry Alarm)} {x x′ : Answer} → k .Says x x′ → said x .kind ≡ i → n + said x .came ≡ m + said x .went → (s t : Station) → On k m d d′ s t → Told k i n x x′ s t
   told h j e s t p = record { says = h; kind = j; even = e ∙ omega (arith, p .size); on = settled p }
 
   -- an answer that says nothing of the active chain
   abbrev Neutral : Answer → Type 0
-  Neutral x = said x ≡ (0, 0, 0)
+  Neutral x = said x ≡ tells 0 0 0
 
   pub quiet : {n : ℕ} {d d′ : List (Entry Alarm)} {x x′ : Answer} → k .Says x x′ → Neutral x → Related (On k n d d′) (Told k 0 n) (give x) (give x′)
-  quiet h q = give-related (told h (ap (λ (z : ℕ × ℕ × ℕ). z .2) q) (omega (arith, ap (λ (z : ℕ × ℕ × ℕ). z .0) q, ap (λ (z : ℕ × ℕ × ℕ). z .1) q)))
+  quiet h q = give-related (told h (ap (λ (z : Said). z .kind) q) (omega (arith, ap (λ (z : Said). z .came) q, ap (λ (z : Said). z .went) q)))
 
   pub change-like : {n : ℕ} {e e′ : Entry Alarm} {a a′ : Alarm} (answer : Alarm → Answer) → k .Pair (entry (e .index) a) (entry (e′ .index) a′) → BothLegal 3 a a′ → k .Says (answer a) (answer a′) → Neutral (answer a) →
       Related (On k n (e ∷ []) (e′ ∷ [])) (Told k 0 n) (change answer (e .index) a) (change answer (e′ .index) a′)
@@ -103,7 +103,7 @@ module _ {k : Likeness} (l : Lasting k) where
   act-like x t h e e′ q g =
       change-like (actionAnswer x) (l .acts x t q) (acted-legal x t (e .content) h (g .0), acted-legal x t (e′ .content) h (g .1)) (l .saysActed x (l .acts x t q)) (neutral x _)
     where
-      neutral : (x : Action) (a : Alarm) → said (actionAnswer x a) ≡ (0, 0, 0)
+      neutral : (x : Action) (a : Alarm) → said (actionAnswer x a) ≡ tells 0 0 0
       neutral acknowledging a = refl
       neutral suppressing a = refl
 

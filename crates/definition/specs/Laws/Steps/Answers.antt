@@ -18,28 +18,37 @@ use Rattle.definition.specs.Answer.{Answer, Raised, Updated, Cleared, Cl
 use Rattle.definition.specs.Laws.Book.Contents.{length-map}
 use Rattle.definition.specs.Laws.Twins.Blank.{blank}
 
--- ---- what an answer says: how many alarms came onto the active chain, how many went off it, and of which kind it is:
--- 8 where alarms are listed, as operations 8 and 9 do, 7 for operation 7, and 0 else
+-- ---- what an answer says
 
-abbrev pub said : Answer → ℕ × ℕ × ℕ
-said (Raised a) = (1, 0, 0)
-said (Updated a) = (0, 0, 0)
-said (Cleared i) = (0, 1, 0)
-said (ClearWithoutActive k c) = (0, 0, 0)
-said (ActiveLimitExceeded k n) = (0, 0, 0)
-said (Suppressed a) = (0, 0, 0)
-said (Acknowledged a) = (0, 0, 0)
-said (Unauthorized m) = (0, 0, 0)
-said (AuditFailed m) = (0, 0, 0)
-said (NotFound i) = (0, 0, 0)
-said (Expired n) = (0, n, 7)
-said (Alarms l) = (0, 0, 8)
-said (Counts l) = (0, 0, 0)
-said (Summary t) = (0, 0, 0)
-said (Events l) = (0, 0, 0)
+-- how many alarms came onto the active chain, how many went off it, and of which kind the answer is: 8 where alarms are listed, as
+-- operations 8 and 9 do, 7 for operation 7, and 0 else
+pub record Said : Type 0 where
+  pub came : ℕ
+  pub went : ℕ
+  pub kind : ℕ
+
+abbrev pub tells : ℕ → ℕ → ℕ → Said
+tells c w k = record { came = c; went = w; kind = k }
+
+abbrev pub said : Answer → Said
+said (Raised a) = tells 1 0 0
+said (Updated a) = tells 0 0 0
+said (Cleared i) = tells 0 1 0
+said (ClearWithoutActive k c) = tells 0 0 0
+said (ActiveLimitExceeded k n) = tells 0 0 0
+said (Suppressed a) = tells 0 0 0
+said (Acknowledged a) = tells 0 0 0
+said (Unauthorized m) = tells 0 0 0
+said (AuditFailed m) = tells 0 0 0
+said (NotFound i) = tells 0 0 0
+said (Expired n) = tells 0 n 7
+said (Alarms l) = tells 0 0 8
+said (Counts l) = tells 0 0 0
+said (Summary t) = tells 0 0 0
+said (Events l) = tells 0 0 0
 
 abbrev pub lists : Answer → Bool
-lists x = eqb (said x .2) 8
+lists x = eqb (said x .kind) 8
 
 -- the kind of an operation's answers
 abbrev pub kindOf : ℕ → ℕ

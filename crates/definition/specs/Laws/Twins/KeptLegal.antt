@@ -63,7 +63,7 @@ module _ {n : ℕ} {s t : Station} (p : On twin n [] [] s t) where
 
 -- it is answered, and the station is legal and its active length has moved by what was answered; or refused, never with 32
 pub data Kept (k : ℕ) (s : Station) : Outcome Answer → Type 0 where
-  answered : {x : Answer} {t : Station} → LegalStation t → said x .2 ≡ k → length (s .active) + said x .0 ≡ length (t .active) + said x .1 → Kept k s (done x t)
+  answered : {x : Answer} {t : Station} → LegalStation t → said x .kind ≡ k → length (s .active) + said x .came ≡ length (t .active) + said x .went → Kept k s (done x t)
   refused : {n : ℕ} → n ≤ 31 → Kept k s (stopped n)
 
 pub perform-kept : (c : CallValue) (n : ℕ) (s : Station) → LegalCall c → LegalStation s → Kept (kindOf (opOf c)) s (perform c n s)
