@@ -42,21 +42,21 @@ self-twin s l = record {
   limit = refl;
   pairs = each-self (s .active);
   picked = nothing;
-  rest = (((refl, refl), refl, (refl, refl)), each-self (s .history), refl);
+  rest = record { limits = (refl, refl); history = each-self (s .history); audit = refl; free = refl; counters = (refl, refl) };
 }
 
 module _ {n : ℕ} {s t : Station} (p : On twin n [] [] s t) where
   pub twin-blank : blankStation s ≡ blankStation t
   twin-blank = λ i. record {
     limitA = p .limit i;
-    limitH = p .rest .0 .0 .0 i;
-    limitE = p .rest .0 .0 .1 i;
+    limitH = p .rest .limits .0 i;
+    limitE = p .rest .limits .1 i;
     active = each-blank (s .active) (t .active) (p .pairs) i;
-    history = each-blank (s .history) (t .history) (p .rest .1) i;
-    audit = p .rest .0 .1 i;
-    free = p .rest .2 i;
-    successes = p .rest .0 .2 .0 i;
-    failures = p .rest .0 .2 .1 i;
+    history = each-blank (s .history) (t .history) (p .rest .history) i;
+    audit = p .rest .audit i;
+    free = p .rest .free i;
+    successes = p .rest .counters .0 i;
+    failures = p .rest .counters .1 i;
   }
 
 -- ---- one call on a legal station

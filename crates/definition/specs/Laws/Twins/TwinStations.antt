@@ -31,12 +31,16 @@ TwinAlarms a a′ = blank a ≡ blank a′
 abbrev pub TwinAt : Entry Alarm → Entry Alarm → Type 0
 TwinAt e e′ = (e .index ≡ e′ .index) × TwinAlarms (e .content) (e′ .content)
 
--- limits, audit and counters
-abbrev pub SameAudit : Station → Station → Type 0
-SameAudit s t = ((s .limitH ≡ t .limitH) × (s .limitE ≡ t .limitE)) × (s .audit ≡ t .audit) × ((s .successes ≡ t .successes) × (s .failures ≡ t .failures))
-
+-- all but the active chains
 abbrev pub TwinRest : Station → Station → Type 0
-TwinRest s t = SameAudit s t × AtEach TwinAt (s .history) (t .history) × (s .free ≡ t .free)
+TwinRest s t =
+    record {
+      limits : (s .limitH ≡ t .limitH) × (s .limitE ≡ t .limitE);
+      history : AtEach TwinAt (s .history) (t .history);
+      audit : s .audit ≡ t .audit;
+      free : s .free ≡ t .free;
+      counters : (s .successes ≡ t .successes) × (s .failures ≡ t .failures);
+    }
 
 abbrev pub twin : Likeness
 twin =
@@ -84,43 +88,46 @@ module _ (n : ℕ) (d d′ : List (Entry Alarm)) where
   BelowLimits s t = Here s t × (length (s .history) < s .limitH)
 
   same-length : (s t : Station) → Here s t → length (s .history) ≡ length (t .history)
-  same-length s t p = length-each TwinAt (s .history) (t .history) (p .rest .1)
+  same-length s t p = length-each TwinAt (s .history) (t .history) (p .rest .history)
 
   add-history : {a a′ : Alarm} → TwinAlarms a a′ → BothLegal 5 a a′ → Related BelowLimits (Only Here) (addHistory a) (addHistory a′)
   unfolding addHistory
   add-history {a} {a′} h (g, g′) = record {
     from = λ s t (p, room).
         let r = p .rest in
-        meet (addHistory-legal s (p .legal) a g room) (addHistory-legal t (p .legal′) a′ g′ (omega (arith, room, same-length s t p, r .0 .0 .0)))
-        (match-taking TwinRest _ _ s t (r .2) (λ i f u. (r .0, last-each TwinAt (s .history) (t .history) (r .1) (refl, h), refl))) (λ s′ t′ x y z. go-on p x y z);
+        meet (addHistory-legal s (p .legal) a g room) (addHistory-legal t (p .legal′) a′ g′ (omega (arith, room, same-length s t p, r .limits .0)))
+        (match-taking TwinRest _ _ s t (r .free) (λ i f u.
+        record { limits = r .limits; history = last-each TwinAt (s .history) (t .history) (r .history) (refl, h); audit = r .audit; free = refl; counters = r .counters })) (λ s′ t′ x y z. go-on p x y z);
   }
 
   change-history : (i : ℕ) {a a′ : Alarm} → TwinAlarms a a′ → BothLegal 5 a a′ → Related Here (Only Here) (changeHistory i a) (changeHistory i a′)
   unfolding changeHistory
   change-history i {a} {a′} h (g, g′) = record {
     from = λ s t p.
+        let r = p .rest in
         meet {R = TwinRest} (changeHistory-legal s (p .legal) i a g) (changeHistory-legal t (p .legal′) i a′ g′)
-        (p .rest .0, replaced-twin i a a′ h (s .history) (t .history) (p .rest .1), p .rest .2) (λ s′ t′ x y z. go-on p x y z);
+        (record { limits = r .limits; history = replaced-twin i a a′ h (s .history) (t .history) (r .history); audit = r .audit; free = r .free; counters = r .counters })
+        (λ s′ t′ x y z. go-on p x y z);
   }
 
   free-oldest : Related (λ s t. Here s t × (s .limitH ≤ length (s .history))) (Only BelowLimits) freeOldestHistory freeOldestHistory
   unfolding freeOldestHistory
   free-oldest = record {
     from = λ s t (p, full).
-        meet {R = TwinRest} (freeOldestHistory-legal s (p .legal) full) (freeOldestHistory-legal t (p .legal′) (omega (arith, full, same-length s t p, p .rest .0 .0 .0)))
-        (go s t p (s .history) (t .history) (p .rest .1)) (λ s′ t′ x y z. (go-on p (x .0) (y .0) z, x .1));
+        meet {R = TwinRest} (freeOldestHistory-legal s (p .legal) full) (freeOldestHistory-legal t (p .legal′) (omega (arith, full, same-length s t p, p .rest .limits .0)))
+        (go s t p (s .history) (t .history) (p .rest .history)) (λ s′ t′ x y z. (go-on p (x .0) (y .0) z, x .1));
   }
     where
       go : (s t : Station) → Here s t → (c c′ : List (Entry Alarm)) → AtEach TwinAt c c′ → Match TwinRest (oldestHistoryOf c s) (oldestHistoryOf c′ t)
       go s t p [] [] h = p .rest
       go s t p [] (e ∷ c) h = absurd h
       go s t p (e ∷ c) [] h = absurd h
-      go s t p (e ∷ c) (e′ ∷ c′) h = (p .rest .0, h .1, ap₂ _∷_ (h .0 .0) (p .rest .2))
+      go s t p (e ∷ c) (e′ ∷ c′) h = let r = p .rest in record { limits = r .limits; history = h .1; audit = r .audit; free = ap₂ _∷_ (h .0 .0) (r .free); counters = r .counters }
 
   make-room : Related Here (Only BelowLimits) makeRoom makeRoom
   unfolding makeRoom
   make-room =
-      test-related _ (λ s t p. ap₂ leb (p .rest .0 .0 .0) (same-length s t p))
+      test-related _ (λ s t p. ap₂ leb (p .rest .limits .0) (same-length s t p))
       (pre-related (λ s t (p, q). (p, leb-true (s .limitH) (length (s .history)) q)) free-oldest)
       (give-related (λ s t (p, q). (p, leb-false (s .limitH) (length (s .history)) q)))
 
@@ -157,7 +164,7 @@ module _ (n : ℕ) (d d′ : List (Entry Alarm)) where
   into-history : {a a′ : Alarm} → TwinAlarms a a′ → BothLegal 5 a a′ → Related Here (Only Here) (intoHistory a) (intoHistory a′)
   unfolding intoHistory
   into-history h g =
-      bind-related {Q = λ o o′ s t. Newest o o′ × Here s t} (look-related (λ s t p. (newest-twin (s .history) (t .history) (p .rest .1), p)))
+      bind-related {Q = λ o o′ s t. Newest o o′ × Here s t} (look-related (λ s t p. (newest-twin (s .history) (t .history) (p .rest .history), p)))
       (λ o o′. known-related (λ s t p. p .0) (λ q. pre-related (λ s t p. p .1) (history-after h g o o′ q)))
 
 -- ---- twins last
@@ -180,8 +187,8 @@ twin-lasts = record {
   pairPast = λ (i, h). h;
   newPast = λ h. h;
   changed = λ p. p;
-  freed = λ h p. (p .0, p .1, ap₂ _∷_ (h .0) (p .2));
-  taken = λ {i = i} {i′} {f} {f′} h p u v. let e : _≡_ {A = List ℕ} (i ∷ f) (i′ ∷ f′) = sym u ∙ p .2 ∙ v in ((cc, h), (p .0, p .1, cc));
+  freed = λ h p. record { limits = p .limits; history = p .history; audit = p .audit; free = ap₂ _∷_ (h .0) (p .free); counters = p .counters };
+  taken = λ {i = i} {i′} {f} {f′} h p u v. let e : _≡_ {A = List ℕ} (i ∷ f) (i′ ∷ f′) = sym u ∙ p .free ∙ v in ((cc, h), record { limits = p .limits; history = p .history; audit = p .audit; free = cc; counters = p .counters });
   files = λ {n = n} {d} {d′} h g. into-history n d d′ h g;
   saysSame = λ x. refl;
   saysRaised = λ h. ap Raised h;

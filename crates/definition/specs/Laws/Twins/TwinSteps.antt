@@ -42,23 +42,25 @@ module _ (n : ℕ) (d d′ : List (Entry Alarm)) where
     from = λ s t (p, q).
         let r = p .rest in
         let room = leb-false (s .limitE) (length (s .audit)) q in
-        meet (addAudit-legal s (p .legal) v h room) (addAudit-legal t (p .legal′) v h (omega (arith, room, r .0 .0 .1, ap length (r .0 .1))))
-        (match-taking TwinRest _ _ s t (r .2) (λ i f u.
-        ((r .0 .0, ap (λ (c : List (Entry Event)). c ++ (entry i v ∷ [])) (r .0 .1), r .0 .2), r .1, refl))) (λ s′ t′ x y z. go-on p x y z);
+        meet (addAudit-legal s (p .legal) v h room) (addAudit-legal t (p .legal′) v h (omega (arith, room, r .limits .1, ap length (r .audit))))
+        (match-taking TwinRest _ _ s t (r .free) (λ i f u.
+        record { limits = r .limits; history = r .history; audit = ap (λ (c : List (Entry Event)). c ++ (entry i v ∷ [])) (r .audit); free = refl; counters = r .counters })) (λ s′ t′ x y z. go-on p x y z);
   }
 
   count-success : Related Here (Only Here) countSuccess countSuccess
   unfolding countSuccess
   count-success = record {
     from = λ s t p. let r = p .rest in
-        meet {R = TwinRest} (countSuccess-legal s (p .legal)) (countSuccess-legal t (p .legal′)) ((r .0 .0, r .0 .1, (ap oneMore (r .0 .2 .0), r .0 .2 .1)), r .1, r .2) (λ s′ t′ x y z. go-on p x y z);
+        meet {R = TwinRest} (countSuccess-legal s (p .legal)) (countSuccess-legal t (p .legal′))
+        (record { limits = r .limits; history = r .history; audit = r .audit; free = r .free; counters = (ap oneMore (r .counters .0), r .counters .1) }) (λ s′ t′ x y z. go-on p x y z);
   }
 
   count-failure : Related Here (Only Here) countFailure countFailure
   unfolding countFailure
   count-failure = record {
     from = λ s t p. let r = p .rest in
-        meet {R = TwinRest} (countFailure-legal s (p .legal)) (countFailure-legal t (p .legal′)) ((r .0 .0, r .0 .1, (r .0 .2 .0, ap oneMore (r .0 .2 .1))), r .1, r .2) (λ s′ t′ x y z. go-on p x y z);
+        meet {R = TwinRest} (countFailure-legal s (p .legal)) (countFailure-legal t (p .legal′))
+        (record { limits = r .limits; history = r .history; audit = r .audit; free = r .free; counters = (r .counters .0, ap oneMore (r .counters .1)) }) (λ s′ t′ x y z. go-on p x y z);
   }
 
   free-audit : Related Here (Only Here) freeOldestAudit freeOldestAudit
@@ -66,12 +68,12 @@ module _ (n : ℕ) (d d′ : List (Entry Alarm)) where
   free-audit = record {
     from = λ s t p. let r = p .rest in
         meet {R = TwinRest} (freeOldestAudit-legal s (p .legal)) (freeOldestAudit-legal t (p .legal′))
-        (subst (λ (c : List (Entry Event)). Match TwinRest (oldestAuditOf (s .audit) s) (oldestAuditOf c t)) (r .0 .1) (go s t r (s .audit))) (λ s′ t′ x y z. go-on p x y z);
+        (subst (λ (c : List (Entry Event)). Match TwinRest (oldestAuditOf (s .audit) s) (oldestAuditOf c t)) (r .audit) (go s t r (s .audit))) (λ s′ t′ x y z. go-on p x y z);
   }
     where
       go : (s t : Station) → TwinRest s t → (c : List (Entry Event)) → Match TwinRest (oldestAuditOf c s) (oldestAuditOf c t)
       go s t r [] = r
-      go s t r (e ∷ c) = ((r .0 .0, refl, r .0 .2), r .1, ap (_∷_ (e .index)) (r .2))
+      go s t r (e ∷ c) = record { limits = r .limits; history = r .history; audit = refl; free = ap (_∷_ (e .index)) (r .free); counters = r .counters }
 
   -- on both, or on neither
   abbrev Stored : Bool → Bool → Station → Station → Type 0
@@ -80,7 +82,7 @@ module _ (n : ℕ) (d d′ : List (Entry Alarm)) where
   attempt-twin : (v v′ : Event) → v ≡ v′ → LegalEvent v → Related Here Stored (attempt v) (attempt v′)
   unfolding attempt eventLost eventStored
   attempt-twin v v′ e h = subst (λ (w : Event). Related Here Stored (attempt v) (attempt w)) e
-      (test-related _ (λ s t p. ap₂ leb (p .rest .0 .0 .1) (ap length (p .rest .0 .1)))
+      (test-related _ (λ s t p. ap₂ leb (p .rest .limits .1) (ap length (p .rest .audit)))
       (pre-related (λ s t p. p .0) (then-related count-failure (give-related (λ s t p. (refl, p)))))
       (then-related (add-audit v h) (then-related count-success (give-related (λ s t p. (refl, p))))))
 
@@ -142,7 +144,7 @@ activeList-twin v = look-related (λ s t p. told twin-lasts (listed (hasSeverity
 
 historyList-twin : {n : ℕ} (u w : Option Bytes) → Related (Twin n) (Told twin 8 n) (historyList u w) (historyList u w)
 unfolding historyList
-historyList-twin u w = look-related (λ s t p. told twin-lasts (listed (inScope u w) (λ a. refl) (s .history) (t .history) (p .rest .1)) refl (omega arith) s t p)
+historyList-twin u w = look-related (λ s t p. told twin-lasts (listed (inScope u w) (λ a. refl) (s .history) (t .history) (p .rest .history)) refl (omega arith) s t p)
 
 counts-twin : {n : ℕ} → Related (Twin n) (Told twin 0 n) counts counts
 unfolding counts
@@ -153,7 +155,7 @@ unfolding summary
 summary-twin = look-related (λ s t p.
     let v = seen severityOf (λ l. refl) (s .active) (t .active) (p .pairs) in
     let z = length-each TwinAt (s .active) (t .active) (p .pairs) in
-    let r = p .rest .0 .2 in
+    let r = p .rest .counters in
     told twin-lasts (λ i. Summary (record { active = z i; worst = worst (v i); readiness = worstImpact (v i); successes = r .0 i; failures = r .1 i })) refl (omega arith) s t p)
 
 frees-twin : {n : ℕ} (d : List (Entry Event)) → Related (Twin n) (Only (Twin n)) (forEach d freeOne) (forEach d freeOne)
@@ -164,7 +166,7 @@ frees-twin {n} (e ∷ d) = then-related (free-audit n [] []) (frees-twin d)
 takeAudit-twin : {n : ℕ} (i : ℕ) → Related (Twin n) (Told twin 0 n) (takeAudit i) (takeAudit i)
 unfolding takeAudit
 takeAudit-twin {n} i =
-    bind-related {Q = λ d d′ s t. (d ≡ d′) × Twin n s t} (look-related (λ s t p. (ap (take i) (p .rest .0 .1), p)))
+    bind-related {Q = λ d d′ s t. (d ≡ d′) × Twin n s t} (look-related (λ s t p. (ap (take i) (p .rest .audit), p)))
     (λ d d′. known-related (λ s t p. p .0) (λ e. pre-related (λ s t p. p .1)
     (subst (λ (c : List (Entry Event)). Related (Twin n) (Told twin 0 n) (_>>_ (forEach d freeOne) (give (Events (contents d)))) (_>>_ (forEach c freeOne) (give (Events (contents c))))) e
     (then-related (frees-twin d) (quiet twin-lasts refl refl)))))
