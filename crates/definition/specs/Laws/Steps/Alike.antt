@@ -1,7 +1,7 @@
 -- Two legal stations that are alike, and moves that keep them so, whatever "alike" is. What it is stands in a `Likeness`, and what a likeness
 -- must meet in its `Lasting`. Each law says besides that both stations stay legal, and that both are refused with the same number, not 32.
 -- For the laws of steps (AlikeSteps) and of twins.
-use Prim.Native.Nat.{ℕ, suc, _+_, _≤_, _<_}
+use Prim.Native.Nat.{ℕ, suc, _+_, _<_}
 use mathlib.Core.Path.{_≡_, refl, sym, ap, _∙_}
 use mathlib.Core.List.{List, [], _∷_, _++_}
 use mathlib.Core.Bool.{Bool}
@@ -17,7 +17,7 @@ use Rattle.definition.specs.Answer.{Answer, Raised, Updated}
 use Rattle.definition.specs.Steps.{intoHistory, updatedBy, newAlarm, clearedBy, actionAnswer, actedOn, expiredBy}
 use Rattle.definition.specs.Contracts.LegalFields.{LegalAlarm}
 use Rattle.definition.specs.Contracts.LegalStation.{LegalStation}
-use Rattle.definition.specs.Laws.Steps.LegalMoves.{Aside, each-last, each-without, each-replaced, legalActive, swap-in, swap-out, swap-replaced}
+use Rattle.definition.specs.Laws.Steps.LegalMoves.{Ends, ended, Aside, addActive-legal, freeActive-legal, changeActive-legal}
 use Rattle.definition.specs.Laws.Steps.Answers.{said}
 use Rattle.definition.specs.Laws.Book.Occurrences.{length-without, length-replaced, length-last}
 use Rattle.definition.specs.Twins.{AtEach}
@@ -108,16 +108,16 @@ go-on p q r h = record {
 pub found-legal : {k : Likeness} {n : ℕ} {e e′ : Entry Alarm} {d d′ : List (Entry Alarm)} {s t : Station} → On k n (e ∷ d) (e′ ∷ d′) s t → BothLegal 3 (e .content) (e′ .content)
 found-legal p = picked-holds (LegalAlarm 3) (p .picked) (p .legal .fields .active) (p .legal′ .fields .active)
 
--- a take on both, where records are free
-pub takes-both : {Q : Unit {0} → Unit {0} → Station → Station → Type 0} (put put′ : ℕ → List ℕ → Station → Station) (s t : Station) → 1 ≤ length (s .free) → 1 ≤ length (t .free) →
-    ((i i′ : ℕ) (f f′ : List ℕ) → s .free ≡ i ∷ f → t .free ≡ i′ ∷ f′ → Q tt tt (put i f s) (put′ i′ f′ t)) → Both Q (taking put (s .free) s) (taking put′ (t .free) t)
+-- a take on both that ends legally
+takes-both : {Q : Unit {0} → Unit {0} → Station → Station → Type 0} (put put′ : ℕ → List ℕ → Station → Station) (s t : Station) →
+    Ends (λ u. LegalStation) (taking put (s .free) s) → Ends (λ u. LegalStation) (taking put′ (t .free) t) →
+    ((i i′ : ℕ) (f f′ : List ℕ) → s .free ≡ i ∷ f → t .free ≡ i′ ∷ f′ → LegalStation (put i f s) → LegalStation (put′ i′ f′ t) → Q tt tt (put i f s) (put′ i′ f′ t)) →
+    Both Q (taking put (s .free) s) (taking put′ (t .free) t)
 unfolding taking
-takes-both {Q} put put′ s t x y h = go (s .free) (t .free) refl refl
+takes-both {Q} put put′ s t x y h = go (s .free) (t .free) refl refl x y
   where
-    go : (f f′ : List ℕ) → s .free ≡ f → t .free ≡ f′ → Both Q (taking put f s) (taking put′ f′ t)
-    go [] f′ p q = absurd (omega (arith, ap length p))
-    go (i ∷ f) [] p q = absurd (omega (arith, ap length q))
-    go (i ∷ f) (i′ ∷ f′) p q = both (h i i′ f f′ p q)
+    go : (f f′ : List ℕ) → s .free ≡ f → t .free ≡ f′ → Ends (λ u. LegalStation) (taking put f s) → Ends (λ u. LegalStation) (taking put′ f′ t) → Both Q (taking put f s) (taking put′ f′ t)
+    go (i ∷ f) (i′ ∷ f′) p q x y = both (h i i′ f f′ p q (ended x) (ended y))
 
 module _ {k : Likeness} (l : Lasting k) where
   -- ---- the moves
@@ -129,10 +129,8 @@ module _ {k : Likeness} (l : Lasting k) where
     from = λ s t p.
         let w = replaced-each (k .Pair) a a′ (p .picked) (distinct s (p .legal .chains)) (distinct t (p .legal′ .chains)) (p .pairs) h in
         both (record {
-          legal = legalActive (p .legal) (swap-replaced _ _ (e .index) a) (rw (length-replaced (e .index) a (s .active)) (p .legal .chains .activeFits))
-              (each-replaced (LegalAlarm 3) (e .index) a (s .active) g (p .legal .fields .active));
-          legal′ = legalActive (p .legal′) (swap-replaced _ _ (e′ .index) a′) (rw (length-replaced (e′ .index) a′ (t .active)) (p .legal′ .chains .activeFits))
-              (each-replaced (LegalAlarm 3) (e′ .index) a′ (t .active) g′ (p .legal′ .fields .active));
+          legal = ended (changeActive-legal s (p .legal) (e .index) a g);
+          legal′ = ended (changeActive-legal t (p .legal′) (e′ .index) a′ g′);
           size = length-replaced (e .index) a (s .active) ∙ p .size;
           limit = p .limit;
           pairs = w .0;
@@ -149,10 +147,8 @@ module _ {k : Likeness} (l : Lasting k) where
         let y = picked-right (p .picked) in
         let w = without-each (k .Pair) (p .picked) (distinct s (p .legal .chains)) (distinct t (p .legal′ .chains)) (p .pairs) in
         both (record {
-          legal = legalActive (p .legal) (swap-out _ _ (e .index) x) (omega (arith, p .legal .chains .activeFits, length-without (e .index) (s .active) x))
-              (each-without (LegalAlarm 3) (e .index) (s .active) (p .legal .fields .active));
-          legal′ = legalActive (p .legal′) (swap-out _ _ (e′ .index) y) (omega (arith, p .legal′ .chains .activeFits, length-without (e′ .index) (t .active) y))
-              (each-without (LegalAlarm 3) (e′ .index) (t .active) (p .legal′ .fields .active));
+          legal = ended (freeActive-legal s (p .legal) (e .index) x) .0;
+          legal′ = ended (freeActive-legal t (p .legal′) (e′ .index) y) .0;
           size = omega (arith, length-without (e .index) (s .active) x, p .size);
           limit = p .limit;
           pairs = w .0;
@@ -172,14 +168,10 @@ module _ {k : Likeness} (l : Lasting k) where
       Both (Only (On k (suc n) [] [])) (addActive a s) (addActive a′ t)
   unfolding addActive
   add-active-at {a = a} {a′} s t (p, room) (g, g′) h =
-      let x = p .legal .chains in
-      let y = p .legal′ .chains in
       let fits : length (t .active) < t .limitA = omega (arith, room, p .size, p .limit, length-each (k .Pair) (s .active) (t .active) (p .pairs)) in
-      takes-both _ _ s t (omega (arith, x .filled, x .historyFits, x .auditFits, room, p .size)) (omega (arith, y .filled, y .historyFits, y .auditFits, fits)) (λ i i′ f f′ u v. record {
-        legal = legalActive (p .legal) (swap-in (s .active) (s .free) i f a u) (rw (length-last (s .active) (entry i a)) (omega (arith, room, p .size)))
-            (each-last (LegalAlarm 3) (s .active) i a (p .legal .fields .active) g);
-        legal′ = legalActive (p .legal′) (swap-in (t .active) (t .free) i′ f′ a′ v) (rw (length-last (t .active) (entry i′ a′)) fits)
-            (each-last (LegalAlarm 3) (t .active) i′ a′ (p .legal′ .fields .active) g′);
+      takes-both _ _ s t (addActive-legal s (p .legal) a g (omega (arith, room, p .size))) (addActive-legal t (p .legal′) a′ g′ fits) (λ i i′ f f′ u v x y. record {
+        legal = x;
+        legal′ = y;
         size = length-last (s .active) (entry i a) ∙ ap suc (p .size);
         limit = p .limit;
         pairs = last-each (k .Pair) (s .active) (t .active) (p .pairs) (h i i′ f f′ u v .0);
