@@ -1,5 +1,4 @@
--- Consequences of the definition, and the words of contracts inside the code; proved. None need be read to know what is claimed of the
--- entry points.
+-- Consequences of the definition, proved. None need be read to know what is claimed of the entry points.
 pub mod Text
 pub mod Book
 pub mod Record

@@ -5,7 +5,7 @@ use mathlib.Core.Bool.{cond}
 use lib.ListN.{length}
 use Rattle.octets.specs.Bytes.{Bytes}
 use Rattle.definition.specs.Parse.{parseCall}
-use Rattle.definition.specs.Station.{Outcome, done, stopped}
+use Rattle.definition.specs.Station.{Station, Outcome, done, stopped}
 use Rattle.definition.specs.Answer.{Answer, answerBytes}
 use Rattle.definition.specs.Perform.{perform}
 use Rattle.definition.specs.Sound.{encode, station, sound}
@@ -26,9 +26,13 @@ abbrev pub replyOf : Bytes → Outcome Answer → Reply
 replyOf b (done a s) = record { number = 0; length = length (answerBytes a); answer = answerBytes a; register = encode s }
 replyOf b (stopped n) = refused n b
 
--- 22: "not sound", before the call is read
+-- 22, "not sound", stands before all that is checked of a call: an entry is refused with it, or goes on from the station that the bytes hold
+abbrev pub onSound : {A : Type 0} → Bytes → (ℕ → A) → (Station → A) → A
+onSound b refusal entry = cond (sound b) (entry (station b)) (refusal 22)
+
+-- "Places in table order; the first fault wins": 22, then what the call's bytes and the answer's length n give
 unfoldable pub stepOf : Bytes → Bytes → ℕ → Reply
-stepOf b call n = cond (sound b) (replyOf b (perform (parseCall call) n (station b))) (refused 22 b)
+stepOf b call n = onSound b (λ k. refused k b) (λ s. replyOf b (perform (parseCall call) n s))
 
 -- "it takes each call's bytes and answer length in turn"
 unfoldable pub run : List (Bytes × ℕ) → Bytes → List Reply

@@ -18,8 +18,8 @@ pub record Slot (A : Type 0) : Type 0 where
   pub ok : A → Bool
 
 -- the bytes are those of a legal value
-unfoldable pub sound : {A : Type 0} → Slot A → Bytes → Bool
-sound s b = s .ok (s .get b) && same (s .put (s .get b)) b
+unfoldable pub soundSlot : {A : Type 0} → Slot A → Bytes → Bool
+soundSlot s b = s .ok (s .get b) && same (s .put (s .get b)) b
 
 -- n bytes of any kind
 abbrev pub raw : ℕ → Slot Bytes
@@ -82,9 +82,9 @@ cut at [] b = []
 cut at (w ∷ ws) b = take w (drop at b) ∷ cut (at + w) ws b
 
 -- the sum of the widths
-abbrev pub total : List ℕ → ℕ
-total [] = 0
-total (w ∷ ws) = w + total ws
+abbrev pub totalWidth : List ℕ → ℕ
+totalWidth [] = 0
+totalWidth (w ∷ ws) = w + totalWidth ws
 
 -- every test holds
 abbrev pub allOf : List Bool → Bool
@@ -122,7 +122,7 @@ module _ {X : Type 0} where
   abbrev pub fields : List (Field X) → (List Bytes → X) → Slot X
   fields fs of =
       record {
-        width = total (widths fs);
+        width = totalWidth (widths fs);
         put = λ x. join (pieces fs x);
         get = λ b. of (cut 0 (widths fs) b);
         ok = λ x. allOf (tests fs x);

@@ -1,13 +1,12 @@
 -- What a check of the register looks at instead of "sound": the header's numbers, ways by links that end, and last records that differ.
--- Soundness.antt and Complete.antt: it comes to the same.
+-- Laws/Book/CheckSound and CheckComplete: it comes to the same. Words of the contracts of `register_check`.
 use mathlib.Core.Path.{_≡_}
 use Prim.Native.Nat.{ℕ, zero, suc, _+_, _*_, _≤_, _<_}
 use mathlib.Core.Bool.{Bool, true, false}
 use lib.ListN.{length, take, drop}
 use Rattle.octets.specs.Bytes.{Bytes, at32, zeros}
 use Rattle.definition.specs.Book.{capacity, readBook, walk}
-use Rattle.definition.specs.Chain.{lastOf}
-use Rattle.definition.specs.Contracts.LegalBook.{Blank, Limit, chain}
+use Rattle.definition.specs.Contracts.LegalBook.{Zeroed, Limit, chain, lastOf}
 
 -- a test's answer to a question
 abbrev pub Decides : Bool → Type 0 → Type 0
@@ -20,7 +19,7 @@ Leads b m zero i = i ≡ 0
 Leads b m (suc n) i = (1 ≤ i) × (i ≤ m) × Leads b m n (at32 b (1536 * i))
 
 -- lengths that the limits a, h and e allow, and that make up their sum
-pub record Counts (b : Bytes) (a h e : ℕ) : Type 0 where
+pub record Lengths (b : Bytes) (a h e : ℕ) : Type 0 where
   pub within : (at32 b 16 ≤ a) × (at32 b 24 ≤ h) × (at32 b 32 ≤ e)
   pub filled : at32 b 16 + (at32 b 24 + (at32 b 32 + at32 b 40)) ≡ a + h + e
 
@@ -28,7 +27,7 @@ pub record Counts (b : Bytes) (a h e : ℕ) : Type 0 where
 pub record Numbers (b : Bytes) : Type 0 where
   pub limits : Limit (at32 b 0) × Limit (at32 b 4) × Limit (at32 b 8)
   pub size : length b ≡ 1536 * suc (capacity (readBook b))
-  pub counts : Counts b (at32 b 0) (at32 b 4) (at32 b 8)
+  pub lengths : Lengths b (at32 b 0) (at32 b 4) (at32 b 8)
 
 -- the chains' ways, and that their last records differ
 pub record Chained (b : Bytes) (m : ℕ) : Type 0 where
@@ -52,4 +51,4 @@ pub record PassesCheck (b : Bytes) : Type 0 where
   pub numbers : Numbers b
   pub chained : Chained b (capacity (readBook b))
   pub tail : take 1476 (drop 60 b) ≡ zeros 1476
-  pub blank : Blank (readBook b .free)
+  pub zeroed : Zeroed (readBook b .free)

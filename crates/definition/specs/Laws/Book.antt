@@ -1,4 +1,5 @@
--- The register as chains of opaque payloads: legal books, the check of one, and the four moves.
+-- The register as chains of opaque payloads: legal books, the check of one, and the four moves. For the code of `register`, `register_check`
+-- and `model`, and for the laws of stations.
 pub mod Occurrences
 pub mod RecordAt
 pub mod Split
@@ -7,7 +8,7 @@ pub mod Header
 pub mod ChangedChain
 pub mod Relink
 pub mod TransferBytes
-pub mod Read
+pub mod ReadBack
 pub mod SoundNumbers
 pub mod Transfer
 pub mod Append

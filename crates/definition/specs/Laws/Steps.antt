@@ -1,13 +1,12 @@
 -- Steps on stations: what they keep, two of them side by side, and what the code of one promises.
 pub mod LegalMoves
 pub mod LegalSteps
-pub mod FieldMoves
 pub mod ChangedLegal
-pub mod AnswerLength
+pub mod Answers
 pub mod StationBook
 pub mod SoundStation
 pub mod MoveSteps
-pub mod Chains
+pub mod SoundChains
 pub mod Replies
 pub mod SideBySide
 pub mod PairedChains

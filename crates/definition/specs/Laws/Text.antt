@@ -1,9 +1,9 @@
--- UTF-8, white space, causes, keys, and what the parser reads.
+-- UTF-8, white space, causes, keys, and what the parser reads. For the code of these, and for what a call keeps.
 pub mod Utf8
 pub mod White
 pub mod Trim
 pub mod Cause
 pub mod Key
 pub mod PutString
-pub mod Parse
-pub mod Kind
+pub mod ParsedFields
+pub mod ParsedLegal

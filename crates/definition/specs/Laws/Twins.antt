@@ -2,8 +2,8 @@
 pub mod Blank
 pub mod KeptLegal
 pub mod TwinStations
-pub mod Mask
+pub mod MaskRegister
 pub mod MaskAnswer
 pub mod ReadTwins
-pub mod Claim
+pub mod ClaimHolds
 pub mod TwinSteps

@@ -1,4 +1,5 @@
--- The tests `legalBook` and `soundBook` say what the propositions say.
+-- The tests `legalBook` and `soundBook` say what the propositions `LegalBook` and `SoundBook` say. For the laws of stations (SoundStation), and for
+-- `model` and `register_check`.
 use mathlib.Core.Path.{_≡_, refl, sym, ap, _∙_, subst}
 use mathlib.Core.List.{List, [], _∷_}
 use mathlib.Core.Bool.{Bool, _&&_}
@@ -14,7 +15,7 @@ use Rattle.definition.specs.Book.{Record, Book, capacity, isLimit, limit
 use Rattle.definition.specs.Laws.Book.ChangedChain.{lengths, total-on, total-where}
 use Rattle.definition.specs.Laws.Book.Pigeonhole.{sum-ones, sum-total}
 use Rattle.definition.specs.Chain.{times}
-use Rattle.definition.specs.Contracts.LegalBook.{Sized, Blank, Limit, Legal, Sound, chain, limit}
+use Rattle.definition.specs.Contracts.LegalBook.{Sized, Zeroed, Limit, LegalBook, SoundBook, chain, limit}
 use Rattle.definition.specs.Laws.Book.Occurrences.{times-hit, times-miss, times-nil, times-cons}
 
 eq→eqb : (m n : ℕ) → m ≡ n → T (eqb m n)
@@ -92,13 +93,13 @@ records-from n (e ∷ c) s h =
     both (isRecord n e) (every (isRecord n) c) (record-from n e (r .0) (r .1) (s .0))
     (records-from n c (s .1) (λ j k. h j (omega (arith, times-cons e c j))))
 
-pub zeroed-to : (c : List Record) → T (every isZeroed c) → Blank c
+pub zeroed-to : (c : List Record) → T (every isZeroed c) → Zeroed c
 unfolding every
 zeroed-to [] t = tt
 zeroed-to (e ∷ c) t =
     (sym (same→eq (zeros 1532) (e .content) (both-left (isZeroed e) (every isZeroed c) t)), zeroed-to c (both-right (isZeroed e) (every isZeroed c) t))
 
-pub zeroed-from : (c : List Record) → Blank c → T (every isZeroed c)
+pub zeroed-from : (c : List Record) → Zeroed c → T (every isZeroed c)
 unfolding every
 zeroed-from [] b = tt
 zeroed-from (e ∷ c) b =
@@ -181,7 +182,7 @@ lengths-to s t (suc (suc zero)) h =
     leb→le (length (s .audit)) (s .limitE) (both-right (leb (length (s .history)) (s .limitH)) _ (both-right (leb (length (s .active)) (s .limitA)) _ t))
 lengths-to s t (suc (suc (suc x))) h = absurd (omega arith)
 
-legal-to : (s : Book) → T (legalBook s) → Legal s
+legal-to : (s : Book) → T (legalBook s) → LegalBook s
 unfolding lengths
 legal-to s t =
     let c = tests-to s t in
@@ -194,11 +195,11 @@ legal-to s t =
       once = o;
       only = λ j k. let w = total-where s j k in h (w .0) .1 j (w .2);
       sized = λ x k. h x .0;
-      blank = zeroed-to (s .free) (c .zeroed);
+      zeroed = zeroed-to (s .free) (c .zeroed);
       counters = pair-to (ltb (s .successes) 18446744073709551616) (ltb (s .failures) 18446744073709551616) (ltb→lt _ _) (ltb→lt _ _) (c .counters);
     }
 
-legal-from : (s : Book) → Legal s → T (legalBook s)
+legal-from : (s : Book) → LegalBook s → T (legalBook s)
 legal-from s l =
     tests-from s (record {
       limits = limits-from (s .limitA) (s .limitH) (s .limitE) (l .limits);
@@ -206,14 +207,14 @@ legal-from s l =
           (both (leb (length (s .history)) (s .limitH)) _ (le→leb _ _ (l .within 1 (omega arith))) (le→leb _ _ (l .within 2 (omega arith))));
       records = four-from (every (isRecord (capacity s))) s
           (λ x h. records-from (capacity s) (chain x s) (l .sized x h) (λ j k. l .only j (omega (arith, total-on x s j h))));
-      zeroed = zeroed-from (s .free) (l .blank);
+      zeroed = zeroed-from (s .free) (l .zeroed);
       once = once-from (capacity s) s (l .once);
       counters = pair-from (ltb (s .successes) 18446744073709551616) (ltb (s .failures) 18446744073709551616) (lt→ltb _ _) (lt→ltb _ _) (l .counters);
     })
 
 -- ---- a register
 
-pub sound-to : (b : Bytes) → T (soundBook b) → Sound b
+pub sound-to : (b : Bytes) → T (soundBook b) → SoundBook b
 unfolding soundBook
 sound-to b t =
     record {
@@ -221,7 +222,7 @@ sound-to b t =
       bytes = same→eq (bookBytes (readBook b)) b (both-right (legalBook (readBook b)) _ t);
     }
 
-pub sound-from : (b : Bytes) → Sound b → T (soundBook b)
+pub sound-from : (b : Bytes) → SoundBook b → T (soundBook b)
 unfolding soundBook
 sound-from b s =
     both (legalBook (readBook b)) _ (legal-from (readBook b) (s .legal)) (true-holds _ (eq→same (bookBytes (readBook b)) b (s .bytes)))

@@ -1,4 +1,4 @@
--- A sound register passes the check.
+-- A sound register passes the check. For `register_check`, and for loops along its links (LinkLoops).
 use mathlib.Core.Path.{_≡_, refl, sym, ap, _∙_, subst}
 use mathlib.Core.List.{List, [], _∷_, _++_, append-assoc}
 use Prim.Native.Nat.{ℕ, suc, _+_, _*_, _≤_, _<_}
@@ -13,18 +13,18 @@ use Rattle.definition.specs.Laws.Book.LegalChange.{fair}
 use Rattle.definition.specs.Laws.Book.Header.{length-be32s}
 use Rattle.definition.specs.Laws.Book.ChangedChain.{total-two}
 use Rattle.definition.specs.Laws.Book.Relink.{length-record}
-use Rattle.definition.specs.Laws.Book.Read.{index-range}
+use Rattle.definition.specs.Laws.Book.ReadBack.{index-range}
 use Rattle.definition.specs.Laws.Book.SoundNumbers.{length-sound, head-at, length-at, link-at}
-use Rattle.definition.specs.Chain.{firstOf, lastOf, times}
+use Rattle.definition.specs.Chain.{firstOf, times}
 use Rattle.definition.specs.Laws.Book.Occurrences.{last-nil, last-on}
-use Rattle.definition.specs.Contracts.LegalBook.{Legal, Sound, chain}
+use Rattle.definition.specs.Contracts.LegalBook.{LegalBook, SoundBook, chain, lastOf}
 use Rattle.definition.specs.Contracts.Check.{Leads, PassesCheck}
 
 on-last : (c : List Record) → 1 ≤ lastOf c → 1 ≤ times (lastOf c) c
 on-last [] h = absurd (omega (arith, last-nil Bytes))
 on-last (e ∷ c) h = last-on e c
 
-header-tail : (s : Book) → Legal s → take 1476 (drop 60 (bookBytes s)) ≡ zeros 1476
+header-tail : (s : Book) → LegalBook s → take 1476 (drop 60 (bookBytes s)) ≡ zeros 1476
 unfolding bookBytes recordAt header
 header-tail s l =
     let h : length (be32s (words s) ++ counters s) ≡ 60 = simp (length-append, length-be32s, length-digits) in
@@ -33,11 +33,11 @@ header-tail s l =
     ∙ ap (take 1476) (drop-at (be32s (words s) ++ counters s) (zeros 1476) 60 h)
     ∙ take-all 1476 (zeros 1476) (omega (arith, length-zeros 1476))
 
-module _ (b : Bytes) (sound : Sound b) where
+module _ (b : Bytes) (sound : SoundBook b) where
   abbrev s : Book
   s = readBook b
 
-  l : Legal s
+  l : LegalBook s
   l = sound .legal
 
   leads : (x : ℕ) → x < 4 → (a c : List Record) → chain x s ≡ a ++ c → Leads b (capacity s) (length c) (firstOf c)
@@ -54,7 +54,7 @@ module _ (b : Bytes) (sound : Sound b) where
         numbers = record {
           limits = l .limits;
           size = length-sound b sound;
-          counts = record {
+          lengths = record {
             within = omega (arith, l .within 0 (omega arith), l .within 1 (omega arith), l .within 2 (omega arith), n 0 (omega arith), n 1 (omega arith), n 2 (omega arith));
             filled = omega (arith, l .filled, n 0 (omega arith), n 1 (omega arith), n 2 (omega arith), n 3 (omega arith));
           };
@@ -64,7 +64,7 @@ module _ (b : Bytes) (sound : Sound b) where
           apart = apart;
         };
         tail = ap (λ (r : Bytes). take 1476 (drop 60 r)) (sym (sound .bytes)) ∙ header-tail s l;
-        blank = l .blank;
+        zeroed = l .zeroed;
       }
     where
       n : (x : ℕ) → x < 4 → at32 b (16 + 8 * x) ≡ length (chain x s)

@@ -1,4 +1,4 @@
--- The check's parts, put together: for functions that look at one after the other.
+-- The check's parts, put together: for the functions of `register_check`, which look at one after the other.
 use mathlib.Core.Path.{_≡_, refl, sym, subst}
 use mathlib.Core.Bool.{Bool, true, false, not}
 use Prim.Native.Nat.{ℕ, zero, suc, _+_, _*_, _≤_, _<_}
@@ -7,9 +7,8 @@ use lib.Dec.{T}
 use lib.ListN.{length}
 use Rattle.octets.specs.Bytes.{Bytes, at32}
 use Rattle.definition.specs.Book.{capacity, readBook}
-use Rattle.definition.specs.Chain.{lastOf}
-use Rattle.definition.specs.Contracts.LegalBook.{Limit, chain}
-use Rattle.definition.specs.Contracts.Check.{Leads, Numbers, Chained, Decides, Counts, Apart, Way}
+use Rattle.definition.specs.Contracts.LegalBook.{Limit, chain, lastOf}
+use Rattle.definition.specs.Contracts.Check.{Leads, Numbers, Chained, Decides, Lengths, Apart, Way}
 
 -- ---- a test's answer
 
@@ -32,9 +31,9 @@ pub capacity-read : (b : Bytes) → capacity (readBook b) ≡ at32 b 0 + at32 b 
 unfolding readBook
 capacity-read b = refl
 
-pub numbers-of : (b : Bytes) → Limit (at32 b 0) × Limit (at32 b 4) × Limit (at32 b 8) → length b ≡ 1536 * (at32 b 0 + at32 b 4 + at32 b 8 + 1) → Counts b (at32 b 0) (at32 b 4) (at32 b 8) → Numbers b
+pub numbers-of : (b : Bytes) → Limit (at32 b 0) × Limit (at32 b 4) × Limit (at32 b 8) → length b ≡ 1536 * (at32 b 0 + at32 b 4 + at32 b 8 + 1) → Lengths b (at32 b 0) (at32 b 4) (at32 b 8) → Numbers b
 numbers-of b l z k =
-    record { limits = l; size = omega (arith, capacity-read b); counts = k }
+    record { limits = l; size = omega (arith, capacity-read b); lengths = k }
 
 pub size-of : (b : Bytes) → Numbers b → (length b ≡ 1536 * (at32 b 0 + at32 b 4 + at32 b 8 + 1)) × (at32 b 0 + at32 b 4 + at32 b 8 ≤ 196605)
 size-of b n = omega (arith, n .size, n .limits, capacity-read b)

@@ -1,4 +1,5 @@
--- A register that passes the check is sound.
+-- A register that passes the check is sound: ways by links that end, have true lengths and different last records meet each record once. For
+-- `register_check`, and for code that follows links (`history`, `admin`).
 use mathlib.Core.Path.{_≡_, refl, sym, ap, ap₂, _∙_, subst}
 use mathlib.Core.List.{List, [], _∷_, _++_}
 use Prim.Native.Nat.{ℕ, zero, suc, _+_, _*_, _≤_, _<_}
@@ -14,8 +15,8 @@ use Rattle.definition.specs.Laws.Book.RecordAt.{in-hit, in-miss}
 use Rattle.definition.specs.Laws.Book.ChangedChain.{lengths, with-self, record-with, total-on, total-where}
 use Rattle.definition.specs.Laws.Book.LinkPaths.{length-walk, leads-once, leads-in, leads-meet, leads-last}
 use Rattle.definition.specs.Laws.Book.Pigeonhole.{sum-full, sum-total}
-use Rattle.definition.specs.Chain.{firstOf, lastOf, times}
-use Rattle.definition.specs.Contracts.LegalBook.{Sized, Legal, Sound, chain, limit}
+use Rattle.definition.specs.Chain.{firstOf, times}
+use Rattle.definition.specs.Contracts.LegalBook.{Sized, LegalBook, SoundBook, chain, limit, lastOf}
 use Rattle.definition.specs.Laws.Book.Occurrences.{times-nil, times-miss}
 use Rattle.definition.specs.Contracts.Check.{Leads, PassesCheck}
 
@@ -130,9 +131,9 @@ module _ (b : Bytes) (ck : PassesCheck b) (byte : Octets b) where
 
   filled : lengths s ≡ m
   unfolding lengths len readBook
-  filled = omega (arith, length-on 0 (omega arith), length-on 1 (omega arith), length-on 2 (omega arith), length-on 3 (omega arith), ck .numbers .counts .filled)
+  filled = omega (arith, length-on 0 (omega arith), length-on 1 (omega arith), length-on 2 (omega arith), length-on 3 (omega arith), ck .numbers .lengths .filled)
 
-  check-legal : Legal s
+  check-legal : LegalBook s
   unfolding readBook lengths len
   check-legal =
       record {
@@ -142,14 +143,14 @@ module _ (b : Bytes) (ck : PassesCheck b) (byte : Octets b) where
         once = sum-full (λ j. total j s) m total-once (sum-total m s (λ x hx j. in-on x j hx) ∙ filled);
         only = total-in;
         sized = λ x hx. subst (λ (c : List Record). Sized c) (sym (chain-read b x hx)) (sized-walk b m _ _ (ck .numbers .size) (ck .chained .leads x hx));
-        blank = ck .blank;
+        zeroed = ck .zeroed;
         counters = (number-lt 8 b 44 byte (omega (arith, ck .numbers .size)), number-lt 8 b 52 byte (omega (arith, ck .numbers .size)));
       }
     where
       within : (x : ℕ) → x < 3 → length (chain x s) ≤ limit x s
-      within zero h = omega (arith, length-on 0 (omega arith), ck .numbers .counts .within)
-      within (suc zero) h = omega (arith, length-on 1 (omega arith), ck .numbers .counts .within)
-      within (suc (suc zero)) h = omega (arith, length-on 2 (omega arith), ck .numbers .counts .within)
+      within zero h = omega (arith, length-on 0 (omega arith), ck .numbers .lengths .within)
+      within (suc zero) h = omega (arith, length-on 1 (omega arith), ck .numbers .lengths .within)
+      within (suc (suc zero)) h = omega (arith, length-on 2 (omega arith), ck .numbers .lengths .within)
       within (suc (suc (suc x))) h = absurd (omega arith)
 
   -- record j on chain x
@@ -209,5 +210,5 @@ module _ (b : Bytes) (ck : PassesCheck b) (byte : Octets b) where
       part zero h = header-part
       part (suc j) h = record-part (suc j) (omega arith) (omega arith)
 
-  pub check-sound : Sound b
+  pub check-sound : SoundBook b
   check-sound = record { legal = check-legal; bytes = check-bytes }

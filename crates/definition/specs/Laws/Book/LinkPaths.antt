@@ -1,4 +1,5 @@
--- Records that are reached by links: a way that ends in 0 passes no record twice, and two ways that meet end in one record.
+-- Records that are reached by links: a way that ends in 0 passes no record twice, and two ways that meet end in one record. For the check
+-- (CheckSound).
 use mathlib.Core.Path.{_≡_, refl, sym, ap, _∙_, subst}
 use mathlib.Core.List.{_∷_}
 use Prim.Native.Nat.{ℕ, zero, suc, _*_, _≤_, _<_}
@@ -7,7 +8,8 @@ use native.Mathlib.Decide.{ℕ-discrete}
 use lib.ListN.{length}
 use Rattle.octets.specs.Bytes.{Bytes, at32}
 use Rattle.definition.specs.Book.{recordOf, walk}
-use Rattle.definition.specs.Chain.{lastOf, times}
+use Rattle.definition.specs.Contracts.LegalBook.{lastOf}
+use Rattle.definition.specs.Chain.{times}
 use Rattle.definition.specs.Laws.Book.Occurrences.{last-on, times-hit, times-miss, times-nil, last-later}
 use Rattle.definition.specs.Contracts.Check.{Leads}
 

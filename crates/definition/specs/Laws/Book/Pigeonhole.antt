@@ -1,4 +1,5 @@
--- Sums over 1 to n: as many different numbers of 1 to n as there are, are all of them.
+-- Sums over 1 to n: as many different numbers of 1 to n as there are, are all of them. For "every record on exactly one chain" in the check
+-- and in the book's tests.
 use mathlib.Core.Path.{_≡_, refl, ap, _∙_}
 use mathlib.Core.List.{List, [], _∷_}
 use mathlib.Core.Bool.{cond}

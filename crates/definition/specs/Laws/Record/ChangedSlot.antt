@@ -1,4 +1,5 @@
--- Laws of a record that is changed in place: a splice of one slot is the alarm with one field changed, and a legal field keeps it legal.
+-- A record that is changed in place: a splice of one slot is the alarm with one field changed. For the writers of `record` and `build`, and for
+-- masked registers.
 use mathlib.Core.Path.{_≡_, refl, sym, ap, ap₂, _∙_}
 use mathlib.Core.List.{[], _∷_, _++_, append-assoc}
 use mathlib.Core.Option.{none}
@@ -14,13 +15,13 @@ use Rattle.definition.specs.Alarm.{Alarm, withText, withDetails}
 use Rattle.definition.specs.Slot.{stringBytes, join}
 use Rattle.definition.specs.Laws.Record.Join.{offset, splice-join}
 use Rattle.definition.specs.Record.{alarmBytes}
-use Rattle.definition.specs.Laws.Record.Record.{alarmWidths, alarmPieces, alarm-fits}
+use Rattle.definition.specs.Laws.Record.Payloads.{alarmWidths, alarmPieces, alarm-fits}
 
 -- ---- a slot is replaced: whatever alarm was in the bytes b, the alarm that f makes of it is in the bytes c
 
 -- the last argument but two is `λ a. refl` for each field
 pub slot-law :
-    (k : ℕ) (f : Alarm → Alarm) (v b c : Bytes) → k < 16 → length v ≡ getD alarmWidths k 0 → c ≡ splice b (offset alarmWidths k) v →
+    (k : ℕ) (f : Alarm → Alarm) (v b c : Bytes) → k < length alarmWidths → length v ≡ getD alarmWidths k 0 → c ≡ splice b (offset alarmWidths k) v →
     ((a : Alarm) → set (alarmPieces a) k v ≡ alarmPieces (f a)) → (a : Alarm) → b ≡ alarmBytes a → c ≡ alarmBytes (f a)
 unfolding alarmBytes
 slot-law k f v b c h l e changed a q =

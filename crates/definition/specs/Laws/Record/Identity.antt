@@ -1,4 +1,5 @@
--- History's sameness test looks at two stretches of an alarm's bytes: severity and state, and all from id to region.
+-- History's sameness test looks at two stretches of an alarm's bytes: severity and state, and all from id to region. For `record`, whose code
+-- compares just these.
 use mathlib.Core.Path.{_≡_, refl, sym, ap, ap₂, _∙_, subst}
 use mathlib.Core.List.{List, [], _∷_}
 use mathlib.Core.Bool.{Bool, true, cond, _&&_}
@@ -18,7 +19,7 @@ use Rattle.definition.specs.Alarm.{Alarm, sameMaybe, sameNames, samePart
 use Rattle.definition.specs.Slot.{upTo, option, join, cut}
 use Rattle.definition.specs.Laws.Record.Join.{part-join, test-at, joined, joined-all}
 use Rattle.definition.specs.Record.{short, causeSlot, regionSlot, objectSlot, lastState, alarmBytes, readAlarm, soundAlarm}
-use Rattle.definition.specs.Laws.Record.Record.{alarmWidths, alarmPieces, alarm-fits, sound-legal-alarm}
+use Rattle.definition.specs.Laws.Record.Payloads.{alarmWidths, alarmPieces, alarm-fits, sound-legal-alarm}
 
 -- ---- the tests say that the values are equal
 

@@ -1,4 +1,5 @@
--- Laws of slots one after the other: how to read one, how to replace one, and when all are the same. Each is over the list of widths.
+-- Slots one after the other: how to read one, how to replace one, and when all are the same. Each law is over the list of widths. For payloads
+-- and objects, and for the code of `build`, `record` and `record_check`.
 use mathlib.Core.Path.{_≡_, refl, sym, ap, ap₂, _∙_}
 use mathlib.Core.Bool.{Bool, true, false, _&&_}
 use mathlib.Core.List.{List, [], _∷_, _++_, append-assoc}
@@ -12,7 +13,7 @@ use Rattle.octets.specs.Bytes.{Bytes, same, splice}
 use Rattle.octets.specs.BoolLaws.{and-true, and-assoc, and-comm, both-left, both-right}
 use Rattle.octets.specs.SameLaws.{same-append}
 use Rattle.octets.specs.SpliceLaws.{length-splice, splice-none, splice-two}
-use Rattle.definition.specs.Slot.{join, cut, total, allOf}
+use Rattle.definition.specs.Slot.{join, cut, totalWidth, allOf}
 
 -- the parts have the widths
 abbrev pub Fits : List ℕ → List Bytes → Type 0
@@ -26,7 +27,7 @@ infixr 20 _then_
 abbrev pub _then_ : {A B : Type 0} → A → B → A × B
 _then_ a b = (a, b)
 
-pub length-join : (ws : List ℕ) (ps : List Bytes) → Fits ws ps → length (join ps) ≡ total ws
+pub length-join : (ws : List ℕ) (ps : List Bytes) → Fits ws ps → length (join ps) ≡ totalWidth ws
 unfolding join
 length-join [] [] f = refl
 length-join [] (p ∷ ps) f = absurd f
@@ -70,14 +71,14 @@ fits-drop (suc i) (w ∷ ws) [] f = absurd f
 fits-drop (suc i) (w ∷ ws) (p ∷ ps) f = fits-drop i ws ps (f .1)
 
 -- n parts from part i on
-pub part-join : (i n : ℕ) (ws : List ℕ) (ps : List Bytes) → Fits ws ps → take (total (take n (drop i ws))) (drop (total (take i ws)) (join ps)) ≡ join (take n (drop i ps))
+pub part-join : (i n : ℕ) (ws : List ℕ) (ps : List Bytes) → Fits ws ps → take (totalWidth (take n (drop i ws))) (drop (totalWidth (take i ws)) (join ps)) ≡ join (take n (drop i ps))
 part-join i n ws ps f =
     let g = fits-drop i ws ps f in
     let front : join ps ≡ join (take i ps) ++ join (drop i ps) = sym (ap join (take-append-drop i ps)) ∙ join-append (take i ps) (drop i ps) in
     let body : join (drop i ps) ≡ join (take n (drop i ps)) ++ join (drop n (drop i ps)) =
     sym (ap join (take-append-drop n (drop i ps))) ∙ join-append (take n (drop i ps)) (drop n (drop i ps)) in
-    rw (front, drop-at (join (take i ps)) (join (drop i ps)) (total (take i ws)) (length-join (take i ws) (take i ps) (fits-take i ws ps f)), body)
-    (take-at (join (take n (drop i ps))) (join (drop n (drop i ps))) (total (take n (drop i ws))) (length-join (take n (drop i ws)) (take n (drop i ps)) (fits-take n (drop i ws) (drop i ps) g)))
+    rw (front, drop-at (join (take i ps)) (join (drop i ps)) (totalWidth (take i ws)) (length-join (take i ws) (take i ps) (fits-take i ws ps f)), body)
+    (take-at (join (take n (drop i ps))) (join (drop n (drop i ps))) (totalWidth (take n (drop i ws))) (length-join (take n (drop i ws)) (take n (drop i ps)) (fits-take n (drop i ws) (drop i ps) g)))
 
 -- ---- compared
 
@@ -88,7 +89,7 @@ matches (p ∷ ps) [] = false ∷ []
 matches (p ∷ ps) (q ∷ qs) = same p q ∷ matches ps qs
 
 -- the whole is the same where each part is
-pub same-join : (at : ℕ) (ws : List ℕ) (ps : List Bytes) (b : Bytes) → Fits ws ps → length b ≡ at + total ws → same (join ps) (drop at b) ≡ allOf (matches ps (cut at ws b))
+pub same-join : (at : ℕ) (ws : List ℕ) (ps : List Bytes) (b : Bytes) → Fits ws ps → length b ≡ at + totalWidth ws → same (join ps) (drop at b) ≡ allOf (matches ps (cut at ws b))
 unfolding join cut same
 same-join at [] [] b f h = rw (drop-of-length-le b {i = at} (omega arith))
 same-join at [] (p ∷ ps) b f h = absurd f
@@ -97,7 +98,7 @@ same-join at (w ∷ ws) (p ∷ ps) b f h =
     let e : drop at b ≡ take w (drop at b) ++ drop (at + w) b = sym (take-append-drop w (drop at b)) ∙ ap (λ (t : Bytes). take w (drop at b) ++ t) (drop-drop w at b) in
     let l : length p ≡ length (take w (drop at b)) = f .0 ∙ (rw (length-take, length-drop, h) (omega arith)) in
     ap (same (p ++ join ps)) e ∙ same-append p (take w (drop at b)) (join ps) (drop (at + w) b) l
-    ∙ ap (λ (t : Bool). same p (take w (drop at b)) && t) (same-join (at + w) ws ps b (f .1) (h ∙ sym (add-assoc at w (total ws))))
+    ∙ ap (λ (t : Bool). same p (take w (drop at b)) && t) (same-join (at + w) ws ps b (f .1) (h ∙ sym (add-assoc at w (totalWidth ws))))
 
 -- ---- replaced
 
@@ -126,7 +127,7 @@ laid at [] ps b = b
 laid at (w ∷ ws) [] b = b
 laid at (w ∷ ws) (p ∷ ps) b = laid (at + w) ws ps (splice b at p)
 
-pub laid-join : (at : ℕ) (ws : List ℕ) (ps : List Bytes) (b : Bytes) → Fits ws ps → at + total ws ≤ length b → laid at ws ps b ≡ splice b at (join ps)
+pub laid-join : (at : ℕ) (ws : List ℕ) (ps : List Bytes) (b : Bytes) → Fits ws ps → at + totalWidth ws ≤ length b → laid at ws ps b ≡ splice b at (join ps)
 unfolding laid join
 laid-join at [] [] b f h = sym (splice-none b at)
 laid-join at [] (p ∷ ps) b f h = absurd f

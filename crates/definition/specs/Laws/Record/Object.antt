@@ -1,4 +1,5 @@
--- Laws of an affected object's slot: its width, that a legal object is read back, and when the slot is sound, kind by kind.
+-- An affected object's slot: its width, that a legal object is read back, and when the slot is sound, kind by kind. For payloads, `build` and
+-- `record_check`.
 use mathlib.Core.Path.{_≡_, refl, sym, ap, ap₂, _∙_}
 use mathlib.Core.List.{[], _∷_}
 use mathlib.Core.Bool.{Bool, true, false, _&&_}
@@ -15,10 +16,10 @@ use Rattle.octets.specs.NumberLaws.{length-zeros, length-digits}
 use Rattle.definition.specs.Utf8.{utf8}
 use Rattle.definition.specs.Limits.{shortLimit}
 use Rattle.definition.specs.Value.{ObjectValue, nfInstance, interface, peer, sessionStore, slice, tenant, certificate, dataPlaneQueue}
-use Rattle.definition.specs.Slot.{sound, number, option, cut, allOf}
+use Rattle.definition.specs.Slot.{soundSlot, number, option, cut, allOf}
 use Rattle.definition.specs.Laws.Record.Join.{Fits, length-join, cut-join, same-join, matches}
 use Rattle.definition.specs.Laws.Record.Slot.{Lawful, is-number, is-string, is-option, same-blank, sound-number}
-use Rattle.definition.specs.Record.{short, objectWidths, objectParts, partsOf, objectOf, objectOk, fromParts, objectSlot}
+use Rattle.definition.specs.Record.{short, objectWidths, objectParts, partsOf, objectFrom, objectOk, fromParts, objectSlot}
 
 pub is-short : Lawful short
 is-short = is-string shortLimit utf8 (omega arith)
@@ -139,8 +140,8 @@ module _ (b : Bytes) (size : length b ≡ 136) where
 
   -- the object that is read, and its bytes part by part
   by-parts : (o : ObjectValue) → objectSlot .get b ≡ o →
-      sound objectSlot b ≡ objectOk o && allOf (matches (partsOf o) (part0 ∷ part1 ∷ part2 ∷ part3 ∷ []))
-  unfolding sound cut
+      soundSlot objectSlot b ≡ objectOk o && allOf (matches (partsOf o) (part0 ∷ part1 ∷ part2 ∷ part3 ∷ []))
+  unfolding soundSlot cut
   by-parts o e = rw e (ap (λ (x : Bool). objectOk o && x) (same-join 0 objectWidths (partsOf o) b (parts-fit o) size))
 
   abbrev kind : ℕ
@@ -154,8 +155,8 @@ module _ (b : Bytes) (size : length b ≡ 136) where
 
   -- the kind and two strings
   two : (k : ℕ) (o : ObjectValue) → kind ≡ k → objectSlot .get b ≡ o → partsOf o ≡ objectParts k a (0 ∷ short .put s) 0 → objectOk o ≡ short .ok a && short .ok s →
-      sound objectSlot b ≡ ((sound short part1 && eqb (getD part2 0 0) 0) && sound short (drop 1 part2)) && blank part3
-  unfolding sound
+      soundSlot objectSlot b ≡ ((soundSlot short part1 && eqb (getD part2 0 0) 0) && soundSlot short (drop 1 part2)) && blank part3
+  unfolding soundSlot
   two k o h e f g =
       by-parts o e
       ∙ rw (f, g, same-one k part0 (len 0 1 (omega arith)) h, same-marked (short .put s) part2 (omega (arith, len 67 67 (omega arith))), no-queue part3 (len 134 2 (omega arith)))
@@ -163,28 +164,28 @@ module _ (b : Bytes) (size : length b ≡ 136) where
 
   -- the kind and one string
   one : (k : ℕ) (o : ObjectValue) → kind ≡ k → objectSlot .get b ≡ o → partsOf o ≡ objectParts k a (zeros 67) 0 → objectOk o ≡ short .ok a →
-      sound objectSlot b ≡ (sound short part1 && blank part2) && blank part3
-  unfolding sound
+      soundSlot objectSlot b ≡ (soundSlot short part1 && blank part2) && blank part3
+  unfolding soundSlot
   one k o h e f g =
       by-parts o e
       ∙ rw (f, g, same-one k part0 (len 0 1 (omega arith)) h, same-blank 67 part2 (len 67 67 (omega arith)), no-queue part3 (len 134 2 (omega arith)))
       (one-tests (short .ok a) (same (short .put a) part1) (blank part2) (blank part3))
 
-  read : (k : ℕ) → kind ≡ k → objectSlot .get b ≡ objectOf k part1 part2 part3
+  read : (k : ℕ) → kind ≡ k → objectSlot .get b ≡ objectFrom k part1 part2 part3
   unfolding cut
   read k h = rw h
 
-  pub object-two : (k : ℕ) → kind ≡ k → 0 < k → k < 4 → sound objectSlot b ≡ ((sound short part1 && eqb (getD part2 0 0) 0) && sound short (drop 1 part2)) && blank part3
+  pub object-two : (k : ℕ) → kind ≡ k → 0 < k → k < 4 → soundSlot objectSlot b ≡ ((soundSlot short part1 && eqb (getD part2 0 0) 0) && soundSlot short (drop 1 part2)) && blank part3
   object-two zero h l m = absurd (omega arith)
   object-two (suc zero) h l m = two 1 (nfInstance a s) h (read 1 h) refl refl
   object-two (suc (suc zero)) h l m = two 2 (interface a s) h (read 2 h) refl refl
   object-two (suc (suc (suc zero))) h l m = two 3 (peer a s) h (read 3 h) refl refl
   object-two (suc (suc (suc (suc k)))) h l m = absurd (omega arith)
 
-  pub object-one : (k : ℕ) → kind ≡ k → 4 < k → k < 8 → sound objectSlot b ≡ (sound short part1 && blank part2) && blank part3
+  pub object-one : (k : ℕ) → kind ≡ k → 4 < k → k < 8 → soundSlot objectSlot b ≡ (soundSlot short part1 && blank part2) && blank part3
   object-one k h l m = go k h l m
     where
-      go : (k : ℕ) → kind ≡ k → 4 < k → k < 8 → sound objectSlot b ≡ (sound short part1 && blank part2) && blank part3
+      go : (k : ℕ) → kind ≡ k → 4 < k → k < 8 → soundSlot objectSlot b ≡ (soundSlot short part1 && blank part2) && blank part3
       go k h l m =
           elim (ℕ-discrete k 5) [
             | yes e ↦ one 5 (slice a) (h ∙ e) (read 5 (h ∙ e)) refl refl
@@ -194,16 +195,16 @@ module _ (b : Bytes) (size : length b ≡ 136) where
             ]
           ]
 
-  pub object-shard : kind ≡ 4 → sound objectSlot b ≡ (sound short part1 && sound (option short) part2) && blank part3
-  unfolding sound
+  pub object-shard : kind ≡ 4 → soundSlot objectSlot b ≡ (soundSlot short part1 && soundSlot (option short) part2) && blank part3
+  unfolding soundSlot
   object-shard h =
       let o = sessionStore a (option short .get part2) in
       by-parts o (read 4 h)
       ∙ rw (same-one 4 part0 (len 0 1 (omega arith)) h, no-queue part3 (len 134 2 (omega arith)))
       (shard-tests (short .ok a) (option short .ok (option short .get part2)) (same (short .put a) part1) (same (option short .put (option short .get part2)) part2) (blank part3))
 
-  pub object-queue : kind ≡ 8 → Octets part3 → sound objectSlot b ≡ (sound short part1 && eqb (getD part2 0 0) 0) && sound short (drop 1 part2)
-  unfolding sound
+  pub object-queue : kind ≡ 8 → Octets part3 → soundSlot objectSlot b ≡ (soundSlot short part1 && eqb (getD part2 0 0) 0) && soundSlot short (drop 1 part2)
+  unfolding soundSlot
   object-queue h oct =
       let o = dataPlaneQueue a s (value part3) in
       by-parts o (read 8 h)
@@ -212,11 +213,11 @@ module _ (b : Bytes) (size : length b ≡ 136) where
       (sound-number 2 part3 (len 134 2 (omega arith)) oct))
 
   -- no kind: the bytes of what is read begin with 8
-  pub object-none : (k : ℕ) → kind ≡ k → ((i : ℕ) → 0 < i → i < 9 → k ≡ i → ⊥) → sound objectSlot b ≡ false
+  pub object-none : (k : ℕ) → kind ≡ k → ((i : ℕ) → 0 < i → i < 9 → k ≡ i → ⊥) → soundSlot objectSlot b ≡ false
   object-none k h out =
       let o = dataPlaneQueue a s (value part3) in
       let other : (i : ℕ) → 0 < i → i < 9 → eqb k i ≡ false = λ i l m. ne-eqb k i (out i l m) in
-      let e : objectOf k part1 part2 part3 ≡ o =
+      let e : objectFrom k part1 part2 part3 ≡ o =
       rw (
         other 1 (omega arith) (omega arith),
         other 2 (omega arith) (omega arith),

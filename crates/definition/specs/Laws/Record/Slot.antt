@@ -1,4 +1,5 @@
--- Laws of each kind of slot: its width, that a legal value is read back, and what soundness comes to.
+-- Each kind of slot: its width, that a legal value is read back, and what soundness comes to. For payloads, and for all code that reads,
+-- writes or tests a slot.
 use mathlib.Core.Path.{_≡_, refl, sym, ap, ap₂, _∙_, subst}
 use mathlib.Core.Bool.{Bool, true, false, _&&_}
 use mathlib.Core.List.{List, [], _∷_, _++_}
@@ -15,7 +16,7 @@ use Rattle.octets.specs.BoolLaws.{and-false, and-true, both, both-left, both-ri
 use Rattle.octets.specs.SameLaws.{same-append, same-refl, same→eq, eq→same, ne→same}
 use Rattle.octets.specs.PartLaws.{part-length, part-drop, part-front}
 use Rattle.octets.specs.NumberLaws.{length-zeros, length-pad, pad-fits, take-pad, pad-whole, length-digits, value-digits, digits-value, value-lt, octets-take, octets-drop}
-use Rattle.definition.specs.Slot.{Slot, Field, sound, raw, spare, upTo, number, string, option, cut, allOf, widths, pieces, tests, fields}
+use Rattle.definition.specs.Slot.{Slot, Field, soundSlot, raw, spare, upTo, number, string, option, cut, allOf, widths, pieces, tests, fields}
 use Rattle.definition.specs.Laws.Record.Join.{Fits, length-join, cut-join, matches, same-join, zipped, all-zipped}
 
 -- every value has the slot's width, and a legal one is read back
@@ -25,16 +26,16 @@ pub record Lawful {A : Type 0} (s : Slot A) : Type 0 where
 
 module _ {A : Type 0} (s : Slot A) where
   -- sound bytes are those of a legal value, which they are read as
-  pub sound-legal : (b : Bytes) → T (sound s b) → (T (s .ok (s .get b))) × (s .put (s .get b) ≡ b)
-  unfolding sound
+  pub sound-legal : (b : Bytes) → T (soundSlot s b) → (T (s .ok (s .get b))) × (s .put (s .get b) ≡ b)
+  unfolding soundSlot
   sound-legal b t =
       let x = s .ok (s .get b) in
       let y = same (s .put (s .get b)) b in
       (both-left x y t, same→eq _ _ (both-right x y t))
 
   -- the bytes of a legal value are sound
-  pub legal-sound : Lawful s → (a : A) → T (s .ok a) → T (sound s (s .put a))
-  unfolding sound
+  pub legal-sound : Lawful s → (a : A) → T (s .ok a) → T (soundSlot s (s .put a))
+  unfolding soundSlot
   legal-sound k a t =
       let e = k .back a t in
       both (s .ok (s .get (s .put a))) (same (s .put (s .get (s .put a))) (s .put a))
@@ -87,34 +88,34 @@ is-fields fs of fit back =
 
 -- ---- what soundness comes to
 
-pub sound-raw : (n : ℕ) (b : Bytes) → length b ≡ n → sound (raw n) b ≡ true
-unfolding sound
+pub sound-raw : (n : ℕ) (b : Bytes) → length b ≡ n → soundSlot (raw n) b ≡ true
+unfolding soundSlot
 sound-raw n b h = rw (eq-eqb (length b) n h, pad-whole n b h) (same-refl b)
 
 pub same-blank : (n : ℕ) (b : Bytes) → length b ≡ n → same (zeros n) b ≡ blank b
 unfolding blank
 same-blank n b h = rw h
 
-pub sound-spare : (n : ℕ) (b : Bytes) → length b ≡ n → sound (spare n) b ≡ blank b
-unfolding sound
+pub sound-spare : (n : ℕ) (b : Bytes) → length b ≡ n → soundSlot (spare n) b ≡ blank b
+unfolding soundSlot
 sound-spare n b h = same-blank n b h
 
-pub sound-upTo : (m : ℕ) (b : Bytes) → length b ≡ 1 → sound (upTo m) b ≡ leb (getD b 0 0) m
-unfolding sound
+pub sound-upTo : (m : ℕ) (b : Bytes) → length b ≡ 1 → soundSlot (upTo m) b ≡ leb (getD b 0 0) m
+unfolding soundSlot
 sound-upTo m [] h = absurd (omega arith)
 sound-upTo m (x ∷ []) h = rw (same-refl (x ∷ [])) (and-true (leb x m))
 sound-upTo m (x ∷ y ∷ b) h = absurd (omega arith)
 
-pub sound-number : (n : ℕ) (b : Bytes) → length b ≡ n → Octets b → sound (number n) b ≡ true
-unfolding sound
+pub sound-number : (n : ℕ) (b : Bytes) → length b ≡ n → Octets b → soundSlot (number n) b ≡ true
+unfolding soundSlot
 sound-number n b h o =
     let l : value b < 256 ^ n = subst (λ (m : ℕ). value b < 256 ^ m) h (value-lt b o) in
     rw (lt-ltb (value b) (256 ^ n) l, digits-value n b h o) (same-refl b)
 
 module _ (n : ℕ) (good : Bytes → Bool) (b : Bytes) (size : length b ≡ 2 + n) where
   -- a length within the room: the string is good, and zeros follow
-  string-fits : digits 2 (value (take 2 b)) ≡ take 2 b → value (take 2 b) ≤ n → sound (string n good) b ≡ good (take (value (take 2 b)) (drop 2 b)) && blank (drop (value (take 2 b)) (drop 2 b))
-  unfolding sound blank
+  string-fits : digits 2 (value (take 2 b)) ≡ take 2 b → value (take 2 b) ≤ n → soundSlot (string n good) b ≡ good (take (value (take 2 b)) (drop 2 b)) && blank (drop (value (take 2 b)) (drop 2 b))
+  unfolding soundSlot blank
   string-fits stated h =
       let m = value (take 2 b) in
       let r = drop 2 b in
@@ -131,8 +132,8 @@ module _ (n : ℕ) (good : Bytes → Bool) (b : Bytes) (size : length b ≡ 2 + 
       rw (q, le-leb (length g) n (omega arith))
 
   -- a length above it
-  string-long : n < 65536 → n < value (take 2 b) → sound (string n good) b ≡ false
-  unfolding sound
+  string-long : n < 65536 → n < value (take 2 b) → soundSlot (string n good) b ≡ false
+  unfolding soundSlot
   string-long h65 h =
       let m = value (take 2 b) in
       let g = take m (drop 2 b) in
@@ -143,20 +144,20 @@ module _ (n : ℕ) (good : Bytes → Bool) (b : Bytes) (size : length b ≡ 2 + 
       rw (ne→same _ _ d) (and-false (leb (length g) n && good g))
 
 module _ {A : Type 0} (s : Slot A) where
-  pub option-none : (b : Bytes) → length b ≡ suc (s .width) → getD b 0 0 ≡ 0 → sound (option s) b ≡ blank (drop 1 b)
-  unfolding sound blank zeros same
+  pub option-none : (b : Bytes) → length b ≡ suc (s .width) → getD b 0 0 ≡ 0 → soundSlot (option s) b ≡ blank (drop 1 b)
+  unfolding soundSlot blank zeros same
   option-none [] l h = absurd (omega arith)
   option-none (x ∷ b) l h =
       let w : length b ≡ s .width = omega arith in
       rw (h, w)
 
-  pub option-some : (b : Bytes) → 0 < length b → getD b 0 0 ≡ 1 → sound (option s) b ≡ sound s (drop 1 b)
-  unfolding sound same
+  pub option-some : (b : Bytes) → 0 < length b → getD b 0 0 ≡ 1 → soundSlot (option s) b ≡ soundSlot s (drop 1 b)
+  unfolding soundSlot same
   option-some [] l h = absurd (omega arith)
   option-some (x ∷ b) l h = rw h
 
-  pub option-else : (b : Bytes) → 0 < length b → 1 < getD b 0 0 → sound (option s) b ≡ false
-  unfolding sound same
+  pub option-else : (b : Bytes) → 0 < length b → 1 < getD b 0 0 → soundSlot (option s) b ≡ false
+  unfolding soundSlot same
   option-else [] l h = absurd (omega arith)
   option-else (x ∷ b) l h =
       let u : 1 < x = h in
@@ -165,8 +166,8 @@ module _ {A : Type 0} (s : Slot A) where
 -- fields are sound where each slot is
 pub sound-fields : {X : Type 0} (fs : List (Field X)) (of : List Bytes → X) (b : Bytes) → ((x : X) → Fits (widths fs) (pieces fs x)) → length b ≡ fields fs of .width →
     let x = of (cut 0 (widths fs) b) in
-    sound (fields fs of) b ≡ allOf (zipped (tests fs x) (matches (pieces fs x) (cut 0 (widths fs) b)))
-unfolding sound
+    soundSlot (fields fs of) b ≡ allOf (zipped (tests fs x) (matches (pieces fs x) (cut 0 (widths fs) b)))
+unfolding soundSlot
 sound-fields fs of b fit h =
     let ps = cut 0 (widths fs) b in
     let x = of ps in
@@ -202,7 +203,7 @@ module _ (n : ℕ) (good : Bytes → Bool) (p : Bytes) (at : ℕ) where
   -- it is good, and zeros follow
   pub string-sound :
       at + (2 + n) ≤ length p → Octets p → numberAt 2 p at ≤ n →
-      sound (string n good) (take (2 + n) (drop at p)) ≡ good (take (numberAt 2 p at) (drop (at + 2) p)) && blank (take (n - numberAt 2 p at) (drop (at + 2 + numberAt 2 p at) p))
+      soundSlot (string n good) (take (2 + n) (drop at p)) ≡ good (take (numberAt 2 p at) (drop (at + 2) p)) && blank (take (n - numberAt 2 p at) (drop (at + 2 + numberAt 2 p at) p))
   string-sound h o k =
       let m = numberAt 2 p at in
       let b = take (2 + n) (drop at p) in
@@ -213,5 +214,5 @@ module _ (n : ℕ) (good : Bytes → Bool) (p : Bytes) (at : ℕ) where
       (ap (λ (x : Bytes). good (take m (drop (at + 2) p)) && blank x) (ap (λ (w : ℕ). drop m (take w (drop (at + 2) p))) e ∙ part-drop p (at + 2) m (n - m)))
 
   -- its length is above the room
-  pub string-unsound : at + (2 + n) ≤ length p → n < 65536 → n < numberAt 2 p at → sound (string n good) (take (2 + n) (drop at p)) ≡ false
+  pub string-unsound : at + (2 + n) ≤ length p → n < 65536 → n < numberAt 2 p at → soundSlot (string n good) (take (2 + n) (drop at p)) ≡ false
   string-unsound h l k = string-long n good (take (2 + n) (drop at p)) (part-length p at (2 + n) h) l (rw stated k)

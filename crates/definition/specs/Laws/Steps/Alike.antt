@@ -1,6 +1,7 @@
--- Two stations that are alike, and moves that keep them so, whatever "alike" is. What it is stands in a `Likeness`, and what a likeness must
--- meet in its `Lasting`. Each law says besides that both stations stay legal, and that both are refused with the same number, not 32.
-use Prim.Native.Nat.{ℕ, suc, _+_, _≤_, _<_}
+-- Two legal stations that are alike, and moves that keep them so, whatever "alike" is. What it is stands in a `Likeness`, and what a likeness
+-- must meet in its `Lasting`. Each law says besides that both stations stay legal, and that both are refused with the same number, not 32.
+-- For the laws of steps (AlikeSteps) and of twins.
+use Prim.Native.Nat.{ℕ, suc, _+_, _<_}
 use mathlib.Core.Path.{_≡_, refl, sym, ap, _∙_}
 use mathlib.Core.List.{List, [], _∷_, _++_}
 use mathlib.Core.Bool.{Bool}
@@ -14,12 +15,13 @@ use Rattle.definition.specs.Alarm.{Alarm}
 use Rattle.definition.specs.Station.{Station, Step, _>>=_, onActive, withActive, taking, addActive, freeActive, changeActive}
 use Rattle.definition.specs.Answer.{Answer, Raised, Updated}
 use Rattle.definition.specs.Steps.{intoHistory, updatedBy, newAlarm, clearedBy, actionAnswer, actedOn, expiredBy}
-use Rattle.definition.specs.Contracts.LegalStation.{Legal}
-use Rattle.definition.specs.Laws.Steps.LegalMoves.{Aside, legalActive, swap-in, swap-out, swap-replaced}
-use Rattle.definition.specs.Laws.Steps.LegalSteps.{said}
+use Rattle.definition.specs.Contracts.LegalFields.{LegalAlarm}
+use Rattle.definition.specs.Contracts.LegalStation.{LegalStation}
+use Rattle.definition.specs.Laws.Steps.LegalMoves.{Ends, ended, Aside, addActive-legal, freeActive-legal, changeActive-legal}
+use Rattle.definition.specs.Laws.Steps.Answers.{said}
 use Rattle.definition.specs.Laws.Book.Occurrences.{length-without, length-replaced, length-last}
 use Rattle.definition.specs.Twins.{AtEach}
-use Rattle.definition.specs.Laws.Steps.PairedChains.{distinct, Picked, nothing, picked-left, picked-right, Search, missed, found, first-each, picked-each, length-each, last-each, without-each, replaced-each}
+use Rattle.definition.specs.Laws.Steps.PairedChains.{distinct, Picked, nothing, picked-left, picked-right, picked-holds, Search, missed, found, first-each, picked-each, length-each, last-each, without-each, replaced-each}
 use Rattle.definition.specs.Laws.Steps.SideBySide.{Both, both, Related, Only}
 
 -- ---- what is alike
@@ -33,14 +35,17 @@ pub record Likeness : Type 1 where
   -- the rest of the stations, and what is answered
   pub Rest : Station → Station → Type 0
   pub Says : Answer → Answer → Type 0
-  -- the raises and times of calls
+  -- two raises
   pub Raise : RaiseValue → RaiseValue → Type 0
-  pub Time : ℕ → Type 0
+
+-- two alarms with legal fields
+abbrev pub BothLegal : ℕ → Alarm → Alarm → Type 0
+BothLegal top a a′ = LegalAlarm top a × LegalAlarm top a′
 
 -- legal and alike, n active alarms in each; d and d′ were found on the active chains at the same places
 pub record On (k : Likeness) (n : ℕ) (d d′ : List (Entry Alarm)) (s t : Station) : Type 0 where
-  pub legal : Legal s
-  pub legal′ : Legal t
+  pub legal : LegalStation s
+  pub legal′ : LegalStation t
   pub size : length (s .active) ≡ n
   pub limit : s .limitA ≡ t .limitA
   pub pairs : AtEach (k .Pair) (s .active) (t .active)
@@ -50,8 +55,8 @@ pub record On (k : Likeness) (n : ℕ) (d d′ : List (Entry Alarm)) (s t : Stat
 -- answers of kind i that are alike, on stations that had n active alarms
 pub record Told (k : Likeness) (i n : ℕ) (x x′ : Answer) (s t : Station) : Type 0 where
   pub says : k .Says x x′
-  pub kind : said x .2 ≡ i
-  pub even : n + said x .0 ≡ length (s .active) + said x .1
+  pub kind : said x .kind ≡ i
+  pub even : n + said x .came ≡ length (s .active) + said x .went
   pub on : On k (length (s .active)) [] [] s t
 
 -- another raise of the same alarm, in other words
@@ -67,11 +72,11 @@ pub record Lasting (k : Likeness) : Type 0 where
   -- changes
   pub updates : {e e′ : Entry Alarm} {c : RaiseValue} {t : Bytes} {d : Option Bytes} → k .Raise c (worded t d c) → k .Pair e e′ →
       k .Pair (onContent (updatedBy c) e) (onContent (updatedBy (worded t d c)) e′)
-  pub acts : {e e′ : Entry Alarm} (x : Action) {t : ℕ} → k .Time t → k .Pair e e′ → k .Pair (onContent (actedOn x t) e) (onContent (actedOn x t) e′)
+  pub acts : {e e′ : Entry Alarm} (x : Action) (t : ℕ) → k .Pair e e′ → k .Pair (onContent (actedOn x t) e) (onContent (actedOn x t) e′)
   pub news : {c : RaiseValue} {t : Bytes} {d : Option Bytes} (i : Bytes) → length i ≡ 16 → k .Raise c (worded t d c) → k .New (newAlarm c i) (newAlarm (worded t d c) i)
   -- what goes into history
-  pub clears : {e e′ : Entry Alarm} {t : ℕ} → k .Time t → k .Pair e e′ → k .Past (clearedBy t (e .content)) (clearedBy t (e′ .content))
-  pub expires : {e e′ : Entry Alarm} {t : ℕ} → k .Time t → k .Pair e e′ → k .Past (expiredBy t (e .content)) (expiredBy t (e′ .content))
+  pub clears : {e e′ : Entry Alarm} (t : ℕ) → k .Pair e e′ → k .Past (clearedBy t (e .content)) (clearedBy t (e′ .content))
+  pub expires : {e e′ : Entry Alarm} (t : ℕ) → k .Pair e e′ → k .Past (expiredBy t (e .content)) (expiredBy t (e′ .content))
   pub pairPast : {e e′ : Entry Alarm} → k .Pair e e′ → k .Past (e .content) (e′ .content)
   pub newPast : {a a′ : Alarm} → k .New a a′ → k .Past a a′
   -- the moves on the active chain
@@ -80,7 +85,7 @@ pub record Lasting (k : Likeness) : Type 0 where
       k .Rest (withActive c (e .index ∷ s .free) s) (withActive c′ (e′ .index ∷ t .free) t)
   pub taken : {s t : Station} {c c′ : List (Entry Alarm)} {i i′ : ℕ} {f f′ : List ℕ} {a a′ : Alarm} → k .New a a′ → k .Rest s t → s .free ≡ i ∷ f → t .free ≡ i′ ∷ f′ →
       k .Pair (entry i a) (entry i′ a′) × k .Rest (withActive c f s) (withActive c′ f′ t)
-  pub files : {a a′ : Alarm} {n : ℕ} {d d′ : List (Entry Alarm)} → k .Past a a′ → Related (On k n d d′) (Only (On k n d d′)) (intoHistory a) (intoHistory a′)
+  pub files : {a a′ : Alarm} {n : ℕ} {d d′ : List (Entry Alarm)} → k .Past a a′ → BothLegal 5 a a′ → Related (On k n d d′) (Only (On k n d d′)) (intoHistory a) (intoHistory a′)
   -- answers
   pub saysSame : (x : Answer) → k .Says x x
   pub saysRaised : {a a′ : Alarm} → k .New a a′ → k .Says (Raised a) (Raised a′)
@@ -99,29 +104,33 @@ go-on p q r h = record {
   rest = h;
 }
 
--- a take on both, where records are free
-pub takes-both : {Q : Unit {0} → Unit {0} → Station → Station → Type 0} (put put′ : ℕ → List ℕ → Station → Station) (s t : Station) → 1 ≤ length (s .free) → 1 ≤ length (t .free) →
-    ((i i′ : ℕ) (f f′ : List ℕ) → s .free ≡ i ∷ f → t .free ≡ i′ ∷ f′ → Q tt tt (put i f s) (put′ i′ f′ t)) → Both Q (taking put (s .free) s) (taking put′ (t .free) t)
+-- what was found is legal
+pub found-legal : {k : Likeness} {n : ℕ} {e e′ : Entry Alarm} {d d′ : List (Entry Alarm)} {s t : Station} → On k n (e ∷ d) (e′ ∷ d′) s t → BothLegal 3 (e .content) (e′ .content)
+found-legal p = picked-holds (LegalAlarm 3) (p .picked) (p .legal .fields .active) (p .legal′ .fields .active)
+
+-- a take on both that ends legally
+takes-both : {Q : Unit {0} → Unit {0} → Station → Station → Type 0} (put put′ : ℕ → List ℕ → Station → Station) (s t : Station) →
+    Ends (λ u. LegalStation) (taking put (s .free) s) → Ends (λ u. LegalStation) (taking put′ (t .free) t) →
+    ((i i′ : ℕ) (f f′ : List ℕ) → s .free ≡ i ∷ f → t .free ≡ i′ ∷ f′ → LegalStation (put i f s) → LegalStation (put′ i′ f′ t) → Q tt tt (put i f s) (put′ i′ f′ t)) →
+    Both Q (taking put (s .free) s) (taking put′ (t .free) t)
 unfolding taking
-takes-both {Q} put put′ s t x y h = go (s .free) (t .free) refl refl
+takes-both {Q} put put′ s t x y h = go (s .free) (t .free) refl refl x y
   where
-    go : (f f′ : List ℕ) → s .free ≡ f → t .free ≡ f′ → Both Q (taking put f s) (taking put′ f′ t)
-    go [] f′ p q = absurd (omega (arith, ap length p))
-    go (i ∷ f) [] p q = absurd (omega (arith, ap length q))
-    go (i ∷ f) (i′ ∷ f′) p q = both (h i i′ f f′ p q)
+    go : (f f′ : List ℕ) → s .free ≡ f → t .free ≡ f′ → Ends (λ u. LegalStation) (taking put f s) → Ends (λ u. LegalStation) (taking put′ f′ t) → Both Q (taking put f s) (taking put′ f′ t)
+    go (i ∷ f) (i′ ∷ f′) p q x y = both (h i i′ f f′ p q (ended x) (ended y))
 
 module _ {k : Likeness} (l : Lasting k) where
   -- ---- the moves
 
-  pub change-active : {n : ℕ} {e e′ : Entry Alarm} {d d′ : List (Entry Alarm)} {a a′ : Alarm} → k .Pair (entry (e .index) a) (entry (e′ .index) a′) →
+  pub change-active : {n : ℕ} {e e′ : Entry Alarm} {d d′ : List (Entry Alarm)} {a a′ : Alarm} → k .Pair (entry (e .index) a) (entry (e′ .index) a′) → BothLegal 3 a a′ →
       Related (On k n (e ∷ d) (e′ ∷ d′)) (Only (On k n d d′)) (changeActive (e .index) a) (changeActive (e′ .index) a′)
   unfolding changeActive
-  change-active {e = e} {e′} {a = a} {a′} h = record {
+  change-active {e = e} {e′} {a = a} {a′} h (g, g′) = record {
     from = λ s t p.
-        let w = replaced-each (k .Pair) a a′ (p .picked) (distinct s (p .legal)) (distinct t (p .legal′)) (p .pairs) h in
+        let w = replaced-each (k .Pair) a a′ (p .picked) (distinct s (p .legal .chains)) (distinct t (p .legal′ .chains)) (p .pairs) h in
         both (record {
-          legal = legalActive (p .legal) (swap-replaced _ _ (e .index) a) (rw (length-replaced (e .index) a (s .active)) (p .legal .activeFits));
-          legal′ = legalActive (p .legal′) (swap-replaced _ _ (e′ .index) a′) (rw (length-replaced (e′ .index) a′ (t .active)) (p .legal′ .activeFits));
+          legal = ended (changeActive-legal s (p .legal) (e .index) a g);
+          legal′ = ended (changeActive-legal t (p .legal′) (e′ .index) a′ g′);
           size = length-replaced (e .index) a (s .active) ∙ p .size;
           limit = p .limit;
           pairs = w .0;
@@ -136,10 +145,10 @@ module _ {k : Likeness} (l : Lasting k) where
     from = λ s t p.
         let x = picked-left (p .picked) in
         let y = picked-right (p .picked) in
-        let w = without-each (k .Pair) (p .picked) (distinct s (p .legal)) (distinct t (p .legal′)) (p .pairs) in
+        let w = without-each (k .Pair) (p .picked) (distinct s (p .legal .chains)) (distinct t (p .legal′ .chains)) (p .pairs) in
         both (record {
-          legal = legalActive (p .legal) (swap-out _ _ (e .index) x) (omega (arith, p .legal .activeFits, length-without (e .index) (s .active) x));
-          legal′ = legalActive (p .legal′) (swap-out _ _ (e′ .index) y) (omega (arith, p .legal′ .activeFits, length-without (e′ .index) (t .active) y));
+          legal = ended (freeActive-legal s (p .legal) (e .index) x) .0;
+          legal′ = ended (freeActive-legal t (p .legal′) (e′ .index) y) .0;
           size = omega (arith, length-without (e .index) (s .active) x, p .size);
           limit = p .limit;
           pairs = w .0;
@@ -153,18 +162,16 @@ module _ {k : Likeness} (l : Lasting k) where
   BelowLimit n s t = On k n [] [] s t × (n < s .limitA)
 
   -- from two stations whose next free records may hold the two alarms
-  pub add-active-at : {n : ℕ} {a a′ : Alarm} (s t : Station) → BelowLimit n s t →
+  pub add-active-at : {n : ℕ} {a a′ : Alarm} (s t : Station) → BelowLimit n s t → BothLegal 3 a a′ →
       ((i i′ : ℕ) (f f′ : List ℕ) → s .free ≡ i ∷ f → t .free ≡ i′ ∷ f′ →
       k .Pair (entry i a) (entry i′ a′) × k .Rest (withActive (s .active ++ (entry i a ∷ [])) f s) (withActive (t .active ++ (entry i′ a′ ∷ [])) f′ t)) →
       Both (Only (On k (suc n) [] [])) (addActive a s) (addActive a′ t)
   unfolding addActive
-  add-active-at {a = a} {a′} s t (p, room) h =
-      let x = p .legal in
-      let y = p .legal′ in
+  add-active-at {a = a} {a′} s t (p, room) (g, g′) h =
       let fits : length (t .active) < t .limitA = omega (arith, room, p .size, p .limit, length-each (k .Pair) (s .active) (t .active) (p .pairs)) in
-      takes-both _ _ s t (omega (arith, x .filled, x .historyFits, x .auditFits, room, p .size)) (omega (arith, y .filled, y .historyFits, y .auditFits, fits)) (λ i i′ f f′ u v. record {
-        legal = legalActive x (swap-in (s .active) (s .free) i f a u) (rw (length-last (s .active) (entry i a)) (omega (arith, room, p .size)));
-        legal′ = legalActive y (swap-in (t .active) (t .free) i′ f′ a′ v) (rw (length-last (t .active) (entry i′ a′)) fits);
+      takes-both _ _ s t (addActive-legal s (p .legal) a g (omega (arith, room, p .size))) (addActive-legal t (p .legal′) a′ g′ fits) (λ i i′ f f′ u v x y. record {
+        legal = x;
+        legal′ = y;
         size = length-last (s .active) (entry i a) ∙ ap suc (p .size);
         limit = p .limit;
         pairs = last-each (k .Pair) (s .active) (t .active) (p .pairs) (h i i′ f f′ u v .0);
@@ -172,8 +179,8 @@ module _ {k : Likeness} (l : Lasting k) where
         rest = h i i′ f f′ u v .1;
       })
 
-  pub add-active : {n : ℕ} {a a′ : Alarm} → k .New a a′ → Related (BelowLimit n) (Only (On k (suc n) [] [])) (addActive a) (addActive a′)
-  add-active h = record { from = λ s t p. add-active-at s t p (λ i i′ f f′ u v. l .taken h (p .0 .rest) u v) }
+  pub add-active : {n : ℕ} {a a′ : Alarm} → k .New a a′ → BothLegal 3 a a′ → Related (BelowLimit n) (Only (On k (suc n) [] [])) (addActive a) (addActive a′)
+  add-active h g = record { from = λ s t p. add-active-at s t p g (λ i i′ f f′ u v. l .taken h (p .0 .rest) u v) }
 
   -- ---- what steps look at
 
@@ -183,10 +190,10 @@ module _ {k : Likeness} (l : Lasting k) where
   -- a search finds records at the same place on both, or on neither
   pub search-like : {A : Type 0} {n : ℕ} {P : Station → Station → Type 0} {Q : A → A → Station → Station → Type 0} (f f′ : Option (Entry Alarm) → Step A) (t : Alarm → Bool) →
       ((e e′ : Entry Alarm) → k .Pair e e′ → t (e .content) ≡ t (e′ .content)) → ((s r : Station) → P s r → On k n [] [] s r) → Related P Q (f none) (f′ none) →
-      ((e e′ : Entry Alarm) → k .Pair e e′ → Related (On k n (e ∷ []) (e′ ∷ [])) Q (f (some e)) (f′ (some e′))) → Related P Q (_>>=_ (onActive t) f) (_>>=_ (onActive t) f′)
+      ((e e′ : Entry Alarm) → k .Pair e e′ → BothLegal 3 (e .content) (e′ .content) → Related (On k n (e ∷ []) (e′ ∷ [])) Q (f (some e)) (f′ (some e′))) → Related P Q (_>>=_ (onActive t) f) (_>>=_ (onActive t) f′)
   unfolding _>>=_
   search-like {P = P} {Q} f f′ t b h x y = record { from = λ s r p. go s r p (first-each (k .Pair) t b (s .active) (r .active) (h s r p .pairs)) }
     where
       go : (s r : Station) → P s r → {o o′ : Option (Entry Alarm)} → Search (k .Pair) (s .active) (r .active) o o′ → Both Q (f o s) (f′ o′ r)
       go s r p missed = x .from s r p
-      go s r p (found {e} {e′} q z) = y e e′ q .from s r (pick (h s r p) z)
+      go s r p (found {e} {e′} q z) = let w = pick (h s r p) z in y e e′ q (found-legal w) .from s r w

@@ -1,5 +1,5 @@
 -- Steps on two stations that are alike: one law for each step. Each says that both stations stay legal and alike, that a call is refused on
--- both with the same number, not 32, and that the active length moves by what is answered.
+-- both with the same number, not 32, and that the active length moves by what is answered. For the laws of calls on twins (TwinSteps).
 use Prim.Native.Nat.{ℕ, zero, suc, _+_}
 use mathlib.Core.Path.{_≡_, refl, ap, ap₂, _∙_, subst}
 use mathlib.Core.List.{List, [], _∷_}
@@ -18,11 +18,17 @@ use Rattle.definition.specs.Station.{Station, Step, give, forEach}
 use Rattle.definition.specs.Answer.{Answer, Updated, ActiveLimitExceeded}
 use Rattle.definition.specs.Steps.{change, retire, updatedBy, newAlarm, store, storeNew, raiseAt, raise, clearAt, clear, actionAnswer, actedOn, act, plainAt, plain, isDueEntry, retireDue, expire}
 use Rattle.definition.specs.Perform.{inRecord}
-use Rattle.definition.specs.Laws.Steps.LegalSteps.{said}
+use Rattle.definition.specs.Contracts.LegalFields.{Time, LegalRaise}
+use Rattle.definition.specs.Laws.Steps.ChangedLegal.{past, updated-legal, new-legal, cleared-legal, acted-legal, expired-legal}
+use Rattle.definition.specs.Laws.Steps.Answers.{Said, tells, said}
 use Rattle.definition.specs.Laws.Book.Occurrences.{length-without}
 use Rattle.definition.specs.Laws.Steps.PairedChains.{nothing, picked-left, picked-length, those-each, picked-each, length-each}
 use Rattle.definition.specs.Laws.Steps.SideBySide.{Related, Only, give-related, look-related, refuse-related, cond-related, pre-related, known-related, never-related, post-related, bind-related, then-related, test-related}
-use Rattle.definition.specs.Laws.Steps.Alike.{Likeness, On, Told, worded, Lasting, change-active, free-active, BelowLimit, add-active, pick, search-like}
+use Rattle.definition.specs.Laws.Steps.Alike.{Likeness, BothLegal, On, Told, worded, Lasting, found-legal, change-active, free-active, BelowLimit, add-active, pick, search-like}
+
+-- what is legal on the active chain is so in history
+both-past : {a a′ : Alarm} → BothLegal 3 a a′ → BothLegal 5 a a′
+both-past {a} {a′} (g, g′) = (past a g, past a′ g′)
 
 module _ {k : Likeness} (l : Lasting k) where
   -- ---- the steps
@@ -30,36 +36,36 @@ module _ {k : Likeness} (l : Lasting k) where
   pub settled : {n : ℕ} {d d′ : List (Entry Alarm)} {s t : Station} → On k n d d′ s t → On k (length (s .active)) [] [] s t
   settled p = record { legal = p .legal; legal′ = p .legal′; size = refl; limit = p .limit; pairs = p .pairs; picked = nothing; rest = p .rest }
 
-  pub told : {i m n : ℕ} {d d′ : List (Entry Alarm)} {x x′ : Answer} → k .Says x x′ → said x .2 ≡ i → n + said x .0 ≡ m + said x .1 → (s t : Station) → On k m d d′ s t → Told k i n x x′ s t
+  pub told : {i m n : ℕ} {d d′ : List (Entry Alarm)} {x x′ : Answer} → k .Says x x′ → said x .kind ≡ i → n + said x .came ≡ m + said x .went → (s t : Station) → On k m d d′ s t → Told k i n x x′ s t
   told h j e s t p = record { says = h; kind = j; even = e ∙ omega (arith, p .size); on = settled p }
 
   -- an answer that says nothing of the active chain
   abbrev Neutral : Answer → Type 0
-  Neutral x = said x ≡ (0, 0, 0)
+  Neutral x = said x ≡ tells 0 0 0
 
   pub quiet : {n : ℕ} {d d′ : List (Entry Alarm)} {x x′ : Answer} → k .Says x x′ → Neutral x → Related (On k n d d′) (Told k 0 n) (give x) (give x′)
-  quiet h q = give-related (told h (ap (λ (z : ℕ × ℕ × ℕ). z .2) q) (omega (arith, ap (λ (z : ℕ × ℕ × ℕ). z .0) q, ap (λ (z : ℕ × ℕ × ℕ). z .1) q)))
+  quiet h q = give-related (told h (ap (λ (z : Said). z .kind) q) (omega (arith, ap (λ (z : Said). z .came) q, ap (λ (z : Said). z .went) q)))
 
-  pub change-like : {n : ℕ} {e e′ : Entry Alarm} {a a′ : Alarm} (answer : Alarm → Answer) → k .Pair (entry (e .index) a) (entry (e′ .index) a′) → k .Says (answer a) (answer a′) → Neutral (answer a) →
+  pub change-like : {n : ℕ} {e e′ : Entry Alarm} {a a′ : Alarm} (answer : Alarm → Answer) → k .Pair (entry (e .index) a) (entry (e′ .index) a′) → BothLegal 3 a a′ → k .Says (answer a) (answer a′) → Neutral (answer a) →
       Related (On k n (e ∷ []) (e′ ∷ [])) (Told k 0 n) (change answer (e .index) a) (change answer (e′ .index) a′)
   unfolding change
-  change-like answer h q z = then-related (change-active l h) (then-related (l .files (l .pairPast h)) (quiet q z))
+  change-like answer h g q z = then-related (change-active l h g) (then-related (l .files (l .pairPast h) (both-past g)) (quiet q z))
 
-  retire-like : {n : ℕ} {e e′ : Entry Alarm} {d d′ : List (Entry Alarm)} {a a′ : Alarm} → k .Past a a′ →
+  retire-like : {n : ℕ} {e e′ : Entry Alarm} {d d′ : List (Entry Alarm)} {a a′ : Alarm} → k .Past a a′ → BothLegal 5 a a′ →
       Related (On k (suc n) (e ∷ d) (e′ ∷ d′)) (Only (On k n d d′)) (retire (e .index) a) (retire (e′ .index) a′)
   unfolding retire
-  retire-like h = then-related (free-active l) (l .files h)
+  retire-like h g = then-related (free-active l) (l .files h g)
 
   -- ---- raise
 
-  store-like : {n : ℕ} {a a′ : Alarm} → k .New a a′ → Related (BelowLimit l n) (Told k 0 n) (store a) (store a′)
+  store-like : {n : ℕ} {a a′ : Alarm} → k .New a a′ → BothLegal 3 a a′ → Related (BelowLimit l n) (Told k 0 n) (store a) (store a′)
   unfolding store
-  store-like {n} h = then-related (add-active l h) (then-related (l .files (l .newPast h)) (give-related (told (l .saysRaised h) refl (omega arith))))
+  store-like {n} h g = then-related (add-active l h g) (then-related (l .files (l .newPast h) (both-past g)) (give-related (told (l .saysRaised h) refl (omega arith))))
 
-  module _ {c : RaiseValue} {w : Bytes} {d : Option Bytes} (r : k .Raise c (worded w d c)) where
+  module _ {c : RaiseValue} {w : Bytes} {d : Option Bytes} (r : k .Raise c (worded w d c)) (f : LegalRaise c) (f′ : LegalRaise (worded w d c)) where
     storeNew-like : {n : ℕ} (i : Bytes) → length i ≡ 16 → Related (BelowLimit l n) (Told k 0 n) (storeNew (newAlarm c i)) (storeNew (newAlarm (worded w d c) i))
     unfolding storeNew newAlarm
-    storeNew-like i h = search-like l _ _ (hasId (c .head .id)) (λ e e′ q. ap (same (c .head .id)) (l .ids q)) (λ s t p. p .0) (store-like (l .news i h r)) (λ e e′ q. refuse-related (omega arith))
+    storeNew-like i h = search-like l _ _ (hasId (c .head .id)) (λ e e′ q. ap (same (c .head .id)) (l .ids q)) (λ s t p. p .0) (store-like (l .news i h r) (new-legal c i f h, new-legal _ i f′ h)) (λ e e′ q g. refuse-related (omega arith))
 
     raiseNew-like : {n : ℕ} (i : Bytes) → length i ≡ 16 → Related (On k n [] []) (Told k 0 n) (raiseAt c i none) (raiseAt (worded w d c) i none)
     unfolding raiseAt
@@ -72,30 +78,36 @@ module _ {k : Likeness} (l : Lasting k) where
     unfolding raise raiseAt updatedBy
     raise-like =
         let i = keyOf (c .head .type) (c .key) in
-        search-like l _ _ (hasKey i) (λ e e′ q. ap (same i) (l .keys q)) (λ s t p. p) (raiseNew-like i (length-key _ _)) (λ e e′ q. change-like Updated (l .updates r q) (l .saysUpdated (l .updates r q)) refl)
+        search-like l _ _ (hasKey i) (λ e e′ q. ap (same i) (l .keys q)) (λ s t p. p) (raiseNew-like i (length-key _ _)) (λ e e′ q g.
+        change-like Updated (l .updates r q) (updated-legal c (e .content) f (g .0), updated-legal (worded w d c) (e′ .content) f′ (g .1)) (l .saysUpdated (l .updates r q)) refl)
 
   -- ---- clear
 
-  clearAt-like : {n : ℕ} (c : ClearValue) → k .Time (c .time) → (i : Bytes) (e e′ : Entry Alarm) → k .Pair e e′ → Related (On k n (e ∷ []) (e′ ∷ [])) (Told k 0 n) (clearAt c i (some e)) (clearAt c i (some e′))
+  clearAt-like : {n : ℕ} (c : ClearValue) → Time (c .time) → (i : Bytes) (e e′ : Entry Alarm) → k .Pair e e′ → BothLegal 3 (e .content) (e′ .content) →
+      Related (On k n (e ∷ []) (e′ ∷ [])) (Told k 0 n) (clearAt c i (some e)) (clearAt c i (some e′))
   unfolding clearAt
-  clearAt-like {n = suc n} c h i e e′ q = then-related (retire-like (l .clears h q)) (rw (l .ids q) (give-related (told (l .saysSame _) refl (omega arith))))
-  clearAt-like {n = zero} c h i e e′ q = never-related (λ s t p. omega (arith, p .size, length-without (e .index) (s .active) (picked-left (p .picked))))
+  clearAt-like {n = suc n} c h i e e′ q g =
+      then-related (retire-like (l .clears (c .time) q) (cleared-legal (c .time) (e .content) h (g .0), cleared-legal (c .time) (e′ .content) h (g .1)))
+      (rw (l .ids q) (give-related (told (l .saysSame _) refl (omega arith))))
+  clearAt-like {n = zero} c h i e e′ q g = never-related (λ s t p. omega (arith, p .size, length-without (e .index) (s .active) (picked-left (p .picked))))
 
-  pub clear-like : {n : ℕ} (c : ClearValue) → k .Time (c .time) → Related (On k n [] []) (Told k 0 n) (clear c) (clear c)
+  pub clear-like : {n : ℕ} (c : ClearValue) → Time (c .time) → Related (On k n [] []) (Told k 0 n) (clear c) (clear c)
   unfolding clear clearAt
   clear-like c h = let i = keyOf (c .type) (c .key) in search-like l _ _ (hasKey i) (λ e e′ q. ap (same i) (l .keys q)) (λ s t p. p) (quiet (l .saysSame _) refl) (clearAt-like c h i)
 
   -- ---- acknowledge and suppress
 
-  pub act-like : {n : ℕ} (x : Action) (t : ℕ) → k .Time t → (e e′ : Entry Alarm) → k .Pair e e′ → Related (On k n (e ∷ []) (e′ ∷ [])) (Told k 0 n) (act x t e) (act x t e′)
+  pub act-like : {n : ℕ} (x : Action) (t : ℕ) → Time t → (e e′ : Entry Alarm) → k .Pair e e′ → BothLegal 3 (e .content) (e′ .content) →
+      Related (On k n (e ∷ []) (e′ ∷ [])) (Told k 0 n) (act x t e) (act x t e′)
   unfolding act actedOn
-  act-like x t h e e′ q = change-like (actionAnswer x) (l .acts x h q) (l .saysActed x (l .acts x h q)) (neutral x _)
+  act-like x t h e e′ q g =
+      change-like (actionAnswer x) (l .acts x t q) (acted-legal x t (e .content) h (g .0), acted-legal x t (e′ .content) h (g .1)) (l .saysActed x (l .acts x t q)) (neutral x _)
     where
-      neutral : (x : Action) (a : Alarm) → said (actionAnswer x a) ≡ (0, 0, 0)
+      neutral : (x : Action) (a : Alarm) → said (actionAnswer x a) ≡ tells 0 0 0
       neutral acknowledging a = refl
       neutral suppressing a = refl
 
-  pub plain-like : {n : ℕ} (x : Action) (p : PlainValue) → k .Time (p .time) → Related (On k n [] []) (Told k 0 n) (plain x p) (plain x p)
+  pub plain-like : {n : ℕ} (x : Action) (p : PlainValue) → Time (p .time) → Related (On k n [] []) (Told k 0 n) (plain x p) (plain x p)
   unfolding plain plainAt
   plain-like x p h =
       cond-related (eqb (p .authorised) 0) (quiet (l .saysSame _) refl)
@@ -107,24 +119,24 @@ module _ {k : Likeness} (l : Lasting k) where
   abbrev Fewer : ℕ → ℕ → Station → Station → Type 0
   Fewer n m s t = On k (length (s .active)) [] [] s t × (length (s .active) + m ≡ n)
 
-  retires-like : {t : ℕ} → k .Time t → {n : ℕ} (d d′ : List (Entry Alarm)) → Related (On k n d d′) (Only (Fewer n (length d))) (forEach d (retireDue t)) (forEach d′ (retireDue t))
+  retires-like : (u : ℕ) → Time u → {n : ℕ} (d d′ : List (Entry Alarm)) → Related (On k n d d′) (Only (Fewer n (length d))) (forEach d (retireDue u)) (forEach d′ (retireDue u))
   unfolding forEach
-  retires-like h [] [] = give-related (λ s t p. (settled p, omega (arith, p .size)))
-  retires-like h {n = suc n} (e ∷ d) (e′ ∷ d′) =
-      known-related (λ s t (p : On k (suc n) (e ∷ d) (e′ ∷ d′) s t). picked-each (k .Pair) {d = e ∷ d} {d′ = e′ ∷ d′} (p .picked) (p .pairs) .0)
-      (λ q. then-related (retire-like (l .expires h q)) (post-related (λ u v s t p. (p .0, omega (arith, p .1))) (retires-like h {n = n} d d′)))
-  retires-like h {n = zero} (e ∷ d) (e′ ∷ d′) = never-related (λ s t p. omega (arith, p .size, length-without (e .index) (s .active) (picked-left (p .picked))))
-  retires-like h [] (e ∷ d) = never-related (λ s t p. picked-each (k .Pair) {d = []} {d′ = e ∷ d} (p .picked) (p .pairs))
-  retires-like h (e ∷ d) [] = never-related (λ s t p. picked-each (k .Pair) {d = e ∷ d} {d′ = []} (p .picked) (p .pairs))
+  retires-like u h [] [] = give-related (λ s t p. (settled p, omega (arith, p .size)))
+  retires-like u h {n = suc n} (e ∷ d) (e′ ∷ d′) =
+      known-related {F = k .Pair e e′ × BothLegal 3 (e .content) (e′ .content)} (λ s t p. (picked-each (k .Pair) {d = e ∷ d} {d′ = e′ ∷ d′} (p .picked) (p .pairs) .0, found-legal p))
+      (λ (q, g). then-related (retire-like (l .expires u q) (expired-legal u (e .content) h (g .0), expired-legal u (e′ .content) h (g .1))) (post-related (λ u v s t p. (p .0, omega (arith, p .1))) (retires-like u h {n = n} d d′)))
+  retires-like u h {n = zero} (e ∷ d) (e′ ∷ d′) = never-related (λ s t p. omega (arith, p .size, length-without (e .index) (s .active) (picked-left (p .picked))))
+  retires-like u h [] (e ∷ d) = never-related (λ s t p. picked-each (k .Pair) {d = []} {d′ = e ∷ d} (p .picked) (p .pairs))
+  retires-like u h (e ∷ d) [] = never-related (λ s t p. picked-each (k .Pair) {d = e ∷ d} {d′ = []} (p .picked) (p .pairs))
 
-  pub expire-like : {n : ℕ} (t : ℕ) → k .Time t → Related (On k n [] []) (Told k 7 n) (expire t) (expire t)
+  pub expire-like : {n : ℕ} (t : ℕ) → Time t → Related (On k n [] []) (Told k 7 n) (expire t) (expire t)
   unfolding expire
   expire-like {n} t h =
       bind-related {Q = λ d d′ s r. (length d ≡ length d′) × On k n d d′ s r}
       (look-related (λ s r p.
       let z = those-each (k .Pair) (isDueEntry t) (λ e e′ q. ap (λ u. before u t) (l .times q)) (s .active) (r .active) (p .pairs) in
       (picked-length z, pick l p z)))
-      (λ d d′. known-related (λ s r p. p .0) (λ q. pre-related (λ s r p. p .1) (then-related (retires-like h d d′)
+      (λ d d′. known-related (λ s r p. p .0) (λ q. pre-related (λ s r p. p .1) (then-related (retires-like t h d d′)
       (rw q (give-related (λ s r p. record { says = l .saysSame _; kind = refl; even = omega (arith, p .1); on = p .0 }))))))
 
   -- ---- in a record's room

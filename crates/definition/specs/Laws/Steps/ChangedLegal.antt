@@ -1,19 +1,24 @@
--- Each change of an alarm keeps its fields legal, and an event has legal fields.
+-- Each change of an alarm keeps its fields legal, and the events that steps make have legal fields. For the laws of steps, and for the code of
+-- these changes (`raising`, `state`, `expiry`, `history`, `build`).
 use Prim.Native.Nat.{ℕ, _≤_}
-use mathlib.Core.Path.{_≡_, refl}
-use mathlib.Core.List.{[]}
-use mathlib.Core.Option.{Option, none}
+use mathlib.Core.Option.{Option}
 use mathlib.Core.Bool.{Bool, true, false, cond}
 use native.Mathlib.Omega.{arith}
 use lib.Dec.{leb}
 use Rattle.octets.specs.Bytes.{Bytes}
 use Rattle.definition.specs.Limits.{textLimit, detailsLimit}
 use Rattle.definition.specs.Value.{RaiseValue, PolicyValue, Action, acknowledging, suppressing}
-use Rattle.definition.specs.Alarm.{Alarm, changed}
+use Rattle.definition.specs.Alarm.{Alarm, changed, before, late}
 use Rattle.definition.specs.Steps.{updatedState, updatedBy, newAlarm, clearedBy, actionState, actionByte, actedOn, eventOf, expiredBy}
 use Rattle.definition.specs.Contracts.LegalFields.{Time, Maybe, BlobOf, TextOf, KeyOf, LegalAlarm, LegalEvent, LegalRaise, LegalPolicy}
-use Rattle.definition.specs.Laws.Twins.Blank.{blank}
-use Rattle.definition.specs.Laws.Steps.FieldMoves.{late-time}
+
+late-time : (t u : ℕ) → Time t → Time u → Time (late t u)
+unfolding late
+late-time t u p q = go (before t u)
+  where
+    go : (b : Bool) → Time (cond b u t)
+    go true = q
+    go false = p
 
 -- ---- the changes of an alarm
 
@@ -34,10 +39,6 @@ changed-legal a p severity text details state updated cleared = record {
   clearedAt = cleared;
   key = p .key;
 }
-
--- text and details taken away after a change, or before it
-pub changed-blank : (a : Alarm) (v x u : ℕ) (s : Bytes) (d : Option Bytes) (c : Option ℕ) → blank (changed a v s d x u c) ≡ changed (blank a) v [] none x u c
-changed-blank a v x u s d c = refl
 
 pub past : (a : Alarm) → LegalAlarm 3 a → LegalAlarm 5 a
 past a p = changed-legal a p (p .severity) (p .text) (p .details) (omega (arith, p .state)) (p .updatedAt) (p .clearedAt)

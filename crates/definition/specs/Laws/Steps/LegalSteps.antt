@@ -1,17 +1,17 @@
--- The steps on a legal register.
+-- What goes into history keeps a station legal, and the active chain as it was. For the sweep of `expiry`, which retires alarms.
 use Prim.Native.Nat.{ℕ, _≤_, _<_}
 use mathlib.Core.Path.{_≡_, refl, _∙_}
 use mathlib.Core.Bool.{Bool, true, false, cond}
 use mathlib.Core.Option.{Option, none, some}
-use lib.Dec.{leb, eqb}
+use lib.Dec.{leb}
 use lib.ListN.{length}
 use borrow.Author.Tests.{leb-true, leb-false}
 use Rattle.definition.specs.Chain.{Entry, newest, without, times}
 use Rattle.definition.specs.Alarm.{Alarm, sameIdentity}
 use Rattle.definition.specs.Station.{Station, Outcome, Step, _>>=_, give, freeOldestHistory}
-use Rattle.definition.specs.Answer.{Answer, Raised, Updated, Cleared, ClearWithoutActive, ActiveLimitExceeded, Suppressed, Acknowledged, Unauthorized, AuditFailed, NotFound, Expired, Alarms, Counts, Summary, Events}
 use Rattle.definition.specs.Steps.{makeRoom, extendHistory, historyAfter, intoHistory, retire}
-use Rattle.definition.specs.Contracts.LegalStation.{Legal}
+use Rattle.definition.specs.Contracts.LegalFields.{LegalAlarm}
+use Rattle.definition.specs.Contracts.LegalStation.{LegalStation}
 use Rattle.definition.specs.Laws.Steps.LegalMoves.{Ends, ok, ends-after, ends-weaken, Aside, addHistory-legal, freeActive-legal, freeOldestHistory-legal, changeHistory-legal}
 
 cond-ends : {A : Type 0} {Q : A → Station → Type 0} {s : Station} (b : Bool) (m n : Step A) → Ends Q (m s) → Ends Q (n s) → Ends Q (cond b m n s)
@@ -25,7 +25,7 @@ aside-trans p q = record { legal = q .legal; same = q .same ∙ p .same; limit =
 then-aside : {A : Type 0} {s t : Station} {o : Outcome A} → Aside s t → Ends (λ u v. Aside t v) o → Ends (λ u v. Aside s v) o
 then-aside p e = ends-weaken e (λ u v q. aside-trans p q)
 
-module _ (s : Station) (l : Legal s) where
+module _ (s : Station) (l : LegalStation s) where
   makeRoom-legal : Ends (λ u t. Aside s t × (length (t .history) < t .limitH)) (makeRoom s)
   unfolding makeRoom _>>=_
   makeRoom-legal = go (leb (s .limitH) (length (s .history))) refl
@@ -34,47 +34,24 @@ module _ (s : Station) (l : Legal s) where
       go true p = freeOldestHistory-legal s l (leb-true _ _ p)
       go false p = ok (record { legal = l; same = refl; limit = refl }, leb-false _ _ p)
 
-  extendHistory-legal : (a : Alarm) → Ends (λ u t. Aside s t) (extendHistory a s)
+  extendHistory-legal : (a : Alarm) → LegalAlarm 5 a → Ends (λ u t. Aside s t) (extendHistory a s)
   unfolding extendHistory _>>=_
-  extendHistory-legal a = ends-after _ makeRoom-legal (λ u t r. then-aside (r .0) (addHistory-legal t (r .0 .legal) a (r .1)))
+  extendHistory-legal a p = ends-after _ makeRoom-legal (λ u t r. then-aside (r .0) (addHistory-legal t (r .0 .legal) a p (r .1)))
 
-  historyAfter-legal : (a : Alarm) (o : Option (Entry Alarm)) → Ends (λ u t. Aside s t) (historyAfter a o s)
+  historyAfter-legal : (a : Alarm) → LegalAlarm 5 a → (o : Option (Entry Alarm)) → Ends (λ u t. Aside s t) (historyAfter a o s)
   unfolding historyAfter
-  historyAfter-legal a none = extendHistory-legal a
-  historyAfter-legal a (some e) = cond-ends (sameIdentity (e .content) a) _ _ (changeHistory-legal s l (e .index) a) (extendHistory-legal a)
+  historyAfter-legal a p none = extendHistory-legal a p
+  historyAfter-legal a p (some e) = cond-ends (sameIdentity (e .content) a) _ _ (changeHistory-legal s l (e .index) a p) (extendHistory-legal a p)
 
-  pub intoHistory-legal : (a : Alarm) → Ends (λ u t. Aside s t) (intoHistory a s)
+  pub intoHistory-legal : (a : Alarm) → LegalAlarm 5 a → Ends (λ u t. Aside s t) (intoHistory a s)
   unfolding intoHistory _>>=_
-  intoHistory-legal a = historyAfter-legal a (newest (s .history))
-
--- ---- what an answer says: how many alarms came onto the active chain, how many went off it, and of which kind it is:
--- 8 where alarms are listed, as operations 8 and 9 do, 7 for operation 7, and 0 else
-
-abbrev pub said : Answer → ℕ × ℕ × ℕ
-said (Raised a) = (1, 0, 0)
-said (Updated a) = (0, 0, 0)
-said (Cleared i) = (0, 1, 0)
-said (ClearWithoutActive k c) = (0, 0, 0)
-said (ActiveLimitExceeded k n) = (0, 0, 0)
-said (Suppressed a) = (0, 0, 0)
-said (Acknowledged a) = (0, 0, 0)
-said (Unauthorized m) = (0, 0, 0)
-said (AuditFailed m) = (0, 0, 0)
-said (NotFound i) = (0, 0, 0)
-said (Expired n) = (0, n, 7)
-said (Alarms l) = (0, 0, 8)
-said (Counts l) = (0, 0, 0)
-said (Summary t) = (0, 0, 0)
-said (Events l) = (0, 0, 0)
-
-abbrev pub lists : Answer → Bool
-lists x = eqb (said x .2) 8
+  intoHistory-legal a p = historyAfter-legal a p (newest (s .history))
 
 -- ---- a step on the active chain
 
-module _ (s : Station) (l : Legal s) where
-  pub retire-legal : (i : ℕ) (a : Alarm) → 1 ≤ times i (s .active) → Ends (λ u t. Legal t × (t .active ≡ without i (s .active)) × (t .limitA ≡ s .limitA)) (retire i a s)
+module _ (s : Station) (l : LegalStation s) where
+  pub retire-legal : (i : ℕ) (a : Alarm) → LegalAlarm 5 a → 1 ≤ times i (s .active) → Ends (λ u t. LegalStation t × (t .active ≡ without i (s .active)) × (t .limitA ≡ s .limitA)) (retire i a s)
   unfolding retire _>>=_
-  retire-legal i a h =
+  retire-legal i a f h =
       ends-after _ (freeActive-legal s l i h) (λ u t p.
-      ends-weaken (intoHistory-legal t (p .0) a) (λ v r q. (q .legal, q .same ∙ p .1, q .limit ∙ p .2)))
+      ends-weaken (intoHistory-legal t (p .0) a f) (λ v r q. (q .legal, q .same ∙ p .1, q .limit ∙ p .2)))

@@ -1,4 +1,4 @@
--- Two chains with a relation at each place: what is found at the same places, changed, taken off and added.
+-- Two chains with a relation at each place: what is found at the same places, changed, taken off and added. For stations that are alike.
 use Prim.Native.Nat.{ℕ, suc, _≤_}
 use mathlib.Core.Path.{_≡_, refl, ap}
 use mathlib.Core.List.{List, [], _∷_, _++_}
@@ -8,9 +8,10 @@ use native.Mathlib.Omega.{arith}
 use native.Mathlib.Decide.{decLt}
 use lib.ListN.{length}
 use borrow.Author.Tests.{eq-eqb, ne-eqb}
-use Rattle.definition.specs.Chain.{Entry, entry, those, first, without, replaced, times, timesIn, upFrom}
+use Rattle.definition.specs.Chain.{Entry, entry, those, first, without, replaced, times, upFrom}
 use Rattle.definition.specs.Station.{Station}
-use Rattle.definition.specs.Contracts.LegalStation.{records, Legal}
+use Rattle.definition.specs.Contracts.LegalFields.{Each}
+use Rattle.definition.specs.Contracts.LegalStation.{records, LegalChains, timesIn}
 use Rattle.definition.specs.Laws.Book.Occurrences.{on-chain, times-hit, times-cons, upFrom-in, upFrom-range}
 use Rattle.definition.specs.Twins.{AtEach}
 
@@ -25,7 +26,7 @@ upFrom-once i n = elim (decLt 0 (timesIn i (upFrom 1 n))) [
   | no p ↦ omega arith
 ]
 
-pub distinct : (s : Station) → Legal s → Distinct (s .active)
+pub distinct : (s : Station) → LegalChains s → Distinct (s .active)
 distinct s l i = omega (arith, l .once i, upFrom-once i (records s))
 
 -- ---- records at the same places of two chains
@@ -44,6 +45,10 @@ module _ {A : Type 0} where
   pub picked-right : {e e′ : Entry A} {d d′ c c′ : List (Entry A)} → Picked (e ∷ d) (e′ ∷ d′) c c′ → 1 ≤ times (e′ .index) c′
   picked-right {e′ = e} {c′ = x ∷ c} (picks p) = on-chain e c
   picked-right {e′ = e} {c′ = x ∷ c} (passes p) = omega (arith, picked-right p, times-cons x c (e .index))
+
+  pub picked-holds : (P : A → Type 0) {e e′ : Entry A} {d d′ c c′ : List (Entry A)} → Picked (e ∷ d) (e′ ∷ d′) c c′ → Each P c → Each P c′ → P (e .content) × P (e′ .content)
+  picked-holds P (picks p) h h′ = (h .0, h′ .0)
+  picked-holds P (passes p) h h′ = picked-holds P p (h .1) (h′ .1)
 
   pub picked-length : {d d′ c c′ : List (Entry A)} → Picked d d′ c c′ → length d ≡ length d′
   picked-length nothing = refl

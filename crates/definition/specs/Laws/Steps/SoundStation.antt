@@ -1,4 +1,5 @@
--- Sound bytes hold a legal station and are its bytes; a legal station's bytes are sound and hold it.
+-- Sound bytes hold a legal station and are its bytes; a legal station's bytes are sound and hold it. For all code on a sound register, and for
+-- the claim.
 use Prim.Native.Nat.{ℕ}
 use mathlib.Core.Path.{_≡_, refl, sym, ap, ap₂, _∙_, subst}
 use mathlib.Core.List.{List, [], _∷_, map}
@@ -9,30 +10,29 @@ use Rattle.octets.specs.BoolLaws.{both, both-left, both-right}
 use Rattle.definition.specs.Chain.{Entry, onContent, entry}
 use Rattle.definition.specs.Alarm.{Alarm, Event}
 use Rattle.definition.specs.Record.{alarmBytes, readAlarm, soundAlarm, eventBytes, readEvent, soundEvent}
-use Rattle.definition.specs.Laws.Record.Record.{read-alarm, sound-legal-alarm, legal-sound-alarm, read-event, sound-legal-event, legal-sound-event}
+use Rattle.definition.specs.Laws.Record.Payloads.{read-alarm, sound-legal-alarm, legal-sound-alarm, read-event, sound-legal-event, legal-sound-event}
 use Rattle.definition.specs.Contracts.LegalFields.{Each, LegalAlarm, LegalEvent, LegalFields}
-use Rattle.definition.specs.Laws.Record.FieldTests.{says-alarm, says-event}
+use Rattle.definition.specs.Laws.Record.Payloads.{says-alarm, says-event}
 use Rattle.definition.specs.Book.{Record, Book, bookBytes, readBook, every, soundBook, freeRecord}
-use Rattle.definition.specs.Contracts.LegalBook as L
-use Rattle.definition.specs.Laws.Book.Read.{read-bytes, sound-bytes}
+use Rattle.definition.specs.Laws.Book.ReadBack.{read-bytes, sound-bytes}
 use Rattle.definition.specs.Laws.Book.BookTests.{sound-to, sound-from}
 use Rattle.definition.specs.Station.{Station}
 use Rattle.definition.specs.Sound.{bookOf, encode, indexOf, stationOf, station, activeSound, historySound, auditSound, soundRecords, sound}
-use Rattle.definition.specs.Laws.Twins.KeptLegal.{LegalStation}
+use Rattle.definition.specs.Contracts.LegalStation.{LegalStation}
 use Rattle.definition.specs.Laws.Steps.StationBook.{book-legal, station-legal}
-use Rattle.definition.specs.Contracts.LegalBook.{Blank}
+use Rattle.definition.specs.Contracts.LegalBook.{Zeroed, SoundBook}
 
 -- ---- what a record holds: how it is written, read and tested
 
-record Content (A : Type 0) : Type 1 where
-  put : A → Bytes
-  get : Bytes → A
-  Is : A → Type 0
-  test : Bytes → Bool
-  reads : (b : Bytes) → T (test b) → Is (get b) × (put (get b) ≡ b)
-  writes : (a : A) → Is a → T (test (put a)) × (get (put a) ≡ a)
+pub record Content (A : Type 0) : Type 1 where
+  pub put : A → Bytes
+  pub get : Bytes → A
+  pub Is : A → Type 0
+  pub test : Bytes → Bool
+  pub reads : (b : Bytes) → T (test b) → Is (get b) × (put (get b) ≡ b)
+  pub writes : (a : A) → Is a → T (test (put a)) × (get (put a) ≡ a)
 
-abbrev alarms : ℕ → Content Alarm
+abbrev pub alarms : ℕ → Content Alarm
 alarms top =
     record {
       put = alarmBytes;
@@ -43,7 +43,7 @@ alarms top =
       writes = λ a h. (let t = says-alarm top a .to h in (legal-sound-alarm top a t, read-alarm top a t));
     }
 
-abbrev events : Content Event
+abbrev pub events : Content Event
 events =
     record {
       put = eventBytes;
@@ -83,7 +83,7 @@ module _ {A : Type 0} (k : Content A) where
 
 -- ---- the free chain
 
-free-read : (c : List Record) → Blank c → map freeRecord (map indexOf c) ≡ c
+free-read : (c : List Record) → Zeroed c → map freeRecord (map indexOf c) ≡ c
 free-read [] h = refl
 free-read (e ∷ c) h = ap₂ _∷_ (ap (entry (e .index)) (sym (h .0))) (free-read c (h .1))
 
@@ -117,7 +117,7 @@ module _ (b : Book) (r : T (soundRecords b)) where
         audit = each-read events (b .audit) audit-ok;
       }
 
-  book-back : Blank (b .free) → bookOf (stationOf b) ≡ b
+  book-back : Zeroed (b .free) → bookOf (stationOf b) ≡ b
   unfolding bookOf stationOf
   book-back f = λ i. record {
     limitA = b .limitA;
@@ -158,7 +158,7 @@ module _ (s : Station) (f : LegalFields s) where
 pub record Holds (b : Bytes) : Type 0 where
   pub legal : LegalStation (station b)
   pub bytes : encode (station b) ≡ b
-  pub book : L.Sound b
+  pub book : SoundBook b
   pub read : bookOf (station b) ≡ readBook b
 
 pub sound-holds : (b : Bytes) → T (sound b) → Holds b
@@ -168,9 +168,9 @@ sound-holds b h =
     let r = both-right (soundBook b) (soundRecords (readBook b)) h in
     record {
       legal = record { chains = station-legal (readBook b) (k .legal); fields = fields-read (readBook b) r };
-      bytes = ap bookBytes (book-back (readBook b) r (k .legal .blank)) ∙ k .bytes;
+      bytes = ap bookBytes (book-back (readBook b) r (k .legal .zeroed)) ∙ k .bytes;
       book = k;
-      read = book-back (readBook b) r (k .legal .blank);
+      read = book-back (readBook b) r (k .legal .zeroed);
     }
 
 -- a legal station's bytes hold it

@@ -1,4 +1,4 @@
--- A legal station and its book, which is legal too; a fresh one is.
+-- A legal station and its book, which is legal too; a fresh one is. For sound bytes (SoundStation) and opening (`model`).
 use Prim.Native.Nat.{ℕ, zero, suc, _+_, _≤_, _<_}
 use mathlib.Core.Path.{_≡_, refl, _∙_}
 use mathlib.Core.List.{List, [], _∷_, map}
@@ -7,17 +7,16 @@ use native.Mathlib.Decide.{decLt}
 use lib.ListN.{length}
 use Rattle.octets.specs.Bytes.{Bytes, zeros}
 use Rattle.octets.specs.NumberLaws.{length-zeros}
-use Rattle.definition.specs.Chain.{Entry, onContent, upFrom, timesIn, times}
+use Rattle.definition.specs.Chain.{Entry, onContent, upFrom, times}
 use Rattle.definition.specs.Laws.Book.Contents.{length-map}
 use Rattle.definition.specs.Laws.Book.Occurrences.{length-upFrom, upFrom-in, upFrom-range, times-map}
-use Rattle.definition.specs.Laws.Record.Record.{length-alarm, length-event}
+use Rattle.definition.specs.Laws.Record.Payloads.{length-alarm, length-event}
 use Rattle.definition.specs.Record.{alarmBytes, readAlarm, eventBytes, readEvent}
 use Rattle.definition.specs.Book.{Record, Book, capacity, total, freeRecord}
-use Rattle.definition.specs.Contracts.LegalBook as L
 use Rattle.definition.specs.Station.{Station, fresh}
 use Rattle.definition.specs.Sound.{bookOf, indexOf, stationOf}
-use Rattle.definition.specs.Contracts.LegalStation.{records, Legal}
-use Rattle.definition.specs.Contracts.LegalBook.{Limit, Sized, Blank, chain, limit}
+use Rattle.definition.specs.Contracts.LegalStation.{records, LegalChains, timesIn, LegalStation}
+use Rattle.definition.specs.Contracts.LegalBook.{Limit, Sized, Zeroed, chain, limit, LegalBook}
 
 -- ---- contents do not matter
 
@@ -40,13 +39,13 @@ unfolding zeros
 free-sized [] = tt
 free-sized (i ∷ l) = (length-zeros 1532, free-sized l)
 
-free-blank : (l : List ℕ) → Blank (map freeRecord l)
-free-blank [] = tt
-free-blank (i ∷ l) = (refl, free-blank l)
+free-zeroed : (l : List ℕ) → Zeroed (map freeRecord l)
+free-zeroed [] = tt
+free-zeroed (i ∷ l) = (refl, free-zeroed l)
 
 -- ---- legal together
 
-pub book-legal : (s : Station) → Legal s → L.Legal (bookOf s)
+pub book-legal : (s : Station) → LegalChains s → LegalBook (bookOf s)
 unfolding bookOf total
 book-legal s l =
     let a = length-map (onContent alarmBytes) (s .active) in
@@ -60,7 +59,7 @@ book-legal s l =
       once = λ i p q. omega (arith, l .once i, sums i, upFrom-in i 1 (records s) p (omega arith));
       only = λ i p. upFrom-range i (records s) (omega (arith, l .once i, sums i));
       sized = sized;
-      blank = free-blank (s .free);
+      zeroed = free-zeroed (s .free);
       counters = l .counters;
     }
   where
@@ -82,7 +81,7 @@ book-legal s l =
     sized (suc (suc zero)) p = sized-put eventBytes length-event (s .audit)
     sized (suc (suc (suc x))) p = free-sized (s .free)
 
-pub station-legal : (b : Book) → L.Legal b → Legal (stationOf b)
+pub station-legal : (b : Book) → LegalBook b → LegalChains (stationOf b)
 unfolding stationOf total
 station-legal b l =
     let a = length-map (onContent readAlarm) (b .active) in
@@ -114,7 +113,7 @@ station-legal b l =
 
 -- ---- a fresh one
 
-pub fresh-legal : (a h e : ℕ) → Limit a → Limit h → Limit e → Legal (fresh a h e)
+pub fresh-legal : (a h e : ℕ) → Limit a → Limit h → Limit e → LegalChains (fresh a h e)
 unfolding fresh times
 fresh-legal a h e p q r = record {
   limits = (p, q, r);
@@ -125,3 +124,7 @@ fresh-legal a h e p q r = record {
   once = λ i. omega arith;
   counters = (omega arith, omega arith);
 }
+
+pub fresh-legalStation : (a h e : ℕ) → Limit a → Limit h → Limit e → LegalStation (fresh a h e)
+unfolding fresh
+fresh-legalStation a h e p q r = record { chains = fresh-legal a h e p q r; fields = record { active = tt; history = tt; audit = tt } }

@@ -1,4 +1,4 @@
--- The cases of document 01 marked * that lists of calls show, proved by computation: "A register with A=2, H=3, E=1".
+-- The cases marked * that lists of calls show: "A register with A=2, H=3, E=1". For Marked.
 use Prim.Native.Nat.{ℕ}
 use mathlib.Core.Path.{_≡_, refl}
 use mathlib.Core.List.{List, [], _∷_, _++_, map}

@@ -1,4 +1,4 @@
--- Laws of causes and of their stored form.
+-- Causes and their stored form: it is one, is no longer than what was sent, and is UTF-8. For what the parser keeps, and for `cause`.
 use mathlib.Core.Path.{_≡_, refl, sym, ap, _∙_, subst}
 use mathlib.Core.Bool.{Bool, true, false, cond, _&&_, not}
 use mathlib.Core.List.{_++_}

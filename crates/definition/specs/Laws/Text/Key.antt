@@ -1,4 +1,5 @@
--- Laws of the key: lengths of what is fed, of the key and of its digits, and that they are bytes.
+-- The key: lengths of what is fed, of the key and of its digits, and that they are bytes. For the steps of a raise, and for `key`, `build`,
+-- `answers` and `metrics`.
 use mathlib.Core.Path.{_≡_, refl}
 use mathlib.Core.List.{[], _∷_, _++_}
 use mathlib.Core.Bool.{Bool, true, false, cond}

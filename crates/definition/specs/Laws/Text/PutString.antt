@@ -1,4 +1,4 @@
--- A string as in a call, put into a slice. Assumes nothing.
+-- A string as in a call, put into a slice. For `strings`.
 use mathlib.Core.Path.{_≡_, refl, ap, _∙_}
 use Prim.Native.Nat.{ℕ, _+_, _≤_}
 use native.Mathlib.Omega.{arith}

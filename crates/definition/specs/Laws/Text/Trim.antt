@@ -1,4 +1,4 @@
--- A string without white space at both ends is a part of it, and is UTF-8 where the string is.
+-- A string without white space at both ends is a part of it, and is UTF-8 where the string is. For causes.
 use mathlib.Core.Path.{_≡_, refl, sym, ap, _∙_}
 use mathlib.Core.Bool.{Bool, true, false, cond, _&&_}
 use mathlib.Core.List.{List, [], _∷_, map}

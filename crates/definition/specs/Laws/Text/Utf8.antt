@@ -1,4 +1,4 @@
--- Laws of UTF-8: ASCII, strings put together, and the definition as a run of rows.
+-- UTF-8: ASCII, strings put together, and the definition as a run of rows. For causes, and for `utf8` and `record_check`.
 use mathlib.Core.Path.{_≡_, refl, sym, ap, _∙_, subst}
 use mathlib.Core.Logic.{_⊎_, inl, inr}
 use mathlib.Core.Bool.{Bool, true, false, cond, _&&_, _||_}

@@ -1,4 +1,4 @@
--- Laws of white space, and of a string without it at both ends.
+-- White space, and a string without it at both ends. For causes, and for `cause`.
 use mathlib.Core.Path.{_≡_, refl, sym, ap, _∙_}
 use mathlib.Core.Bool.{Bool, true, false, cond, _&&_, _||_, not}
 use mathlib.Core.List.{List, [], _∷_, _++_, map, append-assoc, append-nil}

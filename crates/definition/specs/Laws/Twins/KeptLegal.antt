@@ -1,6 +1,6 @@
--- Legal stations stay legal, call after call, and twins stay twins.
+-- Every call on a legal station leaves a legal station, or is refused and not with 32; it is its own twin. For the claim, and for `station`.
 use Prim.Native.Nat.{ℕ, _+_, _≤_}
-use mathlib.Core.Path.{_≡_, refl, ap, ap₂, subst}
+use mathlib.Core.Path.{_≡_, refl, ap, ap₂}
 use mathlib.Core.List.{List, [], _∷_, map}
 use mathlib.Core.Bool.{Bool}
 use lib.Dec.{eqb}
@@ -8,14 +8,12 @@ use lib.ListN.{length}
 use Rattle.definition.specs.Value.{CallValue, opOf}
 use Rattle.definition.specs.Chain.{Entry}
 use Rattle.definition.specs.Alarm.{Alarm}
-use Rattle.definition.specs.Station.{Station, fresh, Outcome, done, stopped}
+use Rattle.definition.specs.Station.{Station, Outcome, done, stopped}
 use Rattle.definition.specs.Answer.{Answer}
 use Rattle.definition.specs.Perform.{perform}
-use Rattle.definition.specs.Contracts.LegalStation.{Legal}
-use Rattle.definition.specs.Laws.Steps.LegalSteps.{said, lists}
-use Rattle.definition.specs.Laws.Steps.StationBook.{fresh-legal}
-use Rattle.definition.specs.Laws.Text.Kind.{kindOf, listing}
-use Rattle.definition.specs.Contracts.LegalFields.{Each, LegalAlarm, LegalEvent, LegalFields, LegalCall}
+use Rattle.definition.specs.Contracts.LegalStation.{LegalStation}
+use Rattle.definition.specs.Laws.Steps.Answers.{said, lists, kindOf, listing}
+use Rattle.definition.specs.Contracts.LegalFields.{LegalCall}
 use Rattle.definition.specs.Laws.Twins.Blank.{blankEntry, blankStation}
 use Rattle.definition.specs.Twins.{AtEach}
 use Rattle.definition.specs.Laws.Steps.PairedChains.{nothing}
@@ -23,92 +21,56 @@ use Rattle.definition.specs.Laws.Steps.SideBySide.{Both, both, neither}
 use Rattle.definition.specs.Laws.Steps.Alike.{On, Told}
 use Rattle.definition.specs.Laws.Twins.TwinStations.{TwinAt, twin}
 use Rattle.definition.specs.Laws.Twins.TwinSteps.{alike, perform-twin}
-use Rattle.definition.specs.Contracts.LegalBook.{Limit}
 
-pub record LegalStation (s : Station) : Type 0 where
-  pub chains : Legal s
-  pub fields : LegalFields s
+-- ---- a legal station is its own twin
 
-pub fresh-legalStation : (a h e : ℕ) → Limit a → Limit h → Limit e → LegalStation (fresh a h e)
-unfolding fresh
-fresh-legalStation a h e p q r = record { chains = fresh-legal a h e p q r; fields = record { active = tt; history = tt; audit = tt } }
+each-self : (c : List (Entry Alarm)) → AtEach TwinAt c c
+each-self [] = tt
+each-self (e ∷ c) = ((refl, refl), each-self c)
 
--- ---- a legal station is its own twin, and twins are legal
-
-module _ (top : ℕ) where
-  each-self : (c : List (Entry Alarm)) → Each (LegalAlarm top) c → AtEach (TwinAt top) c c
-  each-self [] h = tt
-  each-self (e ∷ c) h = ((refl, (refl, h .0, h .0)), each-self c (h .1))
-
-  each-left : (c c′ : List (Entry Alarm)) → AtEach (TwinAt top) c c′ → Each (LegalAlarm top) c
-  each-left [] c′ h = tt
-  each-left (e ∷ c) [] h = absurd h
-  each-left (e ∷ c) (e′ ∷ c′) h = (h .0 .1 .1, each-left c c′ (h .1))
-
-  each-right : (c c′ : List (Entry Alarm)) → AtEach (TwinAt top) c c′ → Each (LegalAlarm top) c′
-  each-right c [] h = tt
-  each-right [] (e ∷ c) h = absurd h
-  each-right (e ∷ c) (e′ ∷ c′) h = (h .0 .1 .2, each-right c c′ (h .1))
-
-  each-blank : (c c′ : List (Entry Alarm)) → AtEach (TwinAt top) c c′ → map blankEntry c ≡ map blankEntry c′
-  each-blank [] [] h = refl
-  each-blank [] (e ∷ c) h = absurd h
-  each-blank (e ∷ c) [] h = absurd h
-  each-blank (e ∷ c) (e′ ∷ c′) h = ap₂ _∷_ (λ i. record { index = h .0 .0 i; content = h .0 .1 .0 i }) (each-blank c c′ (h .1))
+each-blank : (c c′ : List (Entry Alarm)) → AtEach TwinAt c c′ → map blankEntry c ≡ map blankEntry c′
+each-blank [] [] h = refl
+each-blank [] (e ∷ c) h = absurd h
+each-blank (e ∷ c) [] h = absurd h
+each-blank (e ∷ c) (e′ ∷ c′) h = ap₂ _∷_ (λ i. record { index = h .0 .0 i; content = h .0 .1 i }) (each-blank c c′ (h .1))
 
 pub self-twin : (s : Station) → LegalStation s → On twin (length (s .active)) [] [] s s
 self-twin s l = record {
-  legal = l .chains;
-  legal′ = l .chains;
+  legal = l;
+  legal′ = l;
   size = refl;
   limit = refl;
-  pairs = each-self 3 (s .active) (l .fields .active);
+  pairs = each-self (s .active);
   picked = nothing;
-  rest = (((refl, refl), (refl, l .fields .audit), (refl, refl)), each-self 5 (s .history) (l .fields .history), refl);
+  rest = record { limits = (refl, refl); history = each-self (s .history); audit = refl; free = refl; counters = (refl, refl) };
 }
 
 module _ {n : ℕ} {s t : Station} (p : On twin n [] [] s t) where
-  pub left-legal : LegalStation s
-  left-legal = record {
-    chains = p .legal;
-    fields = record { active = each-left 3 (s .active) (t .active) (p .pairs); history = each-left 5 (s .history) (t .history) (p .rest .1); audit = p .rest .0 .1 .1 };
-  }
-
-  pub right-legal : LegalStation t
-  right-legal = record {
-    chains = p .legal′;
-    fields = record {
-      active = each-right 3 (s .active) (t .active) (p .pairs);
-      history = each-right 5 (s .history) (t .history) (p .rest .1);
-      audit = subst (Each LegalEvent) (p .rest .0 .1 .0) (p .rest .0 .1 .1);
-    };
-  }
-
   pub twin-blank : blankStation s ≡ blankStation t
   twin-blank = λ i. record {
     limitA = p .limit i;
-    limitH = p .rest .0 .0 .0 i;
-    limitE = p .rest .0 .0 .1 i;
-    active = each-blank 3 (s .active) (t .active) (p .pairs) i;
-    history = each-blank 5 (s .history) (t .history) (p .rest .1) i;
-    audit = p .rest .0 .1 .0 i;
-    free = p .rest .2 i;
-    successes = p .rest .0 .2 .0 i;
-    failures = p .rest .0 .2 .1 i;
+    limitH = p .rest .limits .0 i;
+    limitE = p .rest .limits .1 i;
+    active = each-blank (s .active) (t .active) (p .pairs) i;
+    history = each-blank (s .history) (t .history) (p .rest .history) i;
+    audit = p .rest .audit i;
+    free = p .rest .free i;
+    successes = p .rest .counters .0 i;
+    failures = p .rest .counters .1 i;
   }
 
 -- ---- one call on a legal station
 
 -- it is answered, and the station is legal and its active length has moved by what was answered; or refused, never with 32
 pub data Kept (k : ℕ) (s : Station) : Outcome Answer → Type 0 where
-  answered : {x : Answer} {t : Station} → LegalStation t → said x .2 ≡ k → length (s .active) + said x .0 ≡ length (t .active) + said x .1 → Kept k s (done x t)
+  answered : {x : Answer} {t : Station} → LegalStation t → said x .kind ≡ k → length (s .active) + said x .came ≡ length (t .active) + said x .went → Kept k s (done x t)
   refused : {n : ℕ} → n ≤ 31 → Kept k s (stopped n)
 
 pub perform-kept : (c : CallValue) (n : ℕ) (s : Station) → LegalCall c → LegalStation s → Kept (kindOf (opOf c)) s (perform c n s)
 perform-kept c n s h l = go (perform-twin n (alike c) h h .from s s (self-twin s l))
   where
     go : {o o′ : Outcome Answer} → Both (Told twin (kindOf (opOf c)) (length (s .active))) o o′ → Kept (kindOf (opOf c)) s o
-    go (both q) = answered (left-legal (q .on)) (q .kind) (q .even)
+    go (both q) = answered (q .on .legal) (q .kind) (q .even)
     go (neither k) = refused k
 
 -- a legal station and an answer of its kind; or a refusal that is not 32

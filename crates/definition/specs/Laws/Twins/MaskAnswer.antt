@@ -1,4 +1,4 @@
--- Masking an answer's bytes is blanking the answer.
+-- Masking an answer's bytes is blanking the answer. For the claim.
 use Prim.Native.Nat.{ℕ, _+_, _-_, _/_}
 use mathlib.Core.Path.{_≡_, refl, sym, ap, ap₂, _∙_}
 use mathlib.Core.List.{List, [], _∷_, _++_, map, append-assoc, append-nil}
@@ -11,12 +11,11 @@ use Rattle.octets.specs.SpliceLaws.{splice-append, splice-front}
 use Rattle.definition.specs.Alarm.{Alarm}
 use Rattle.definition.specs.Record.{alarmBytes}
 use Rattle.definition.specs.Answer.{Answer, Raised, Updated, Cleared, ClearWithoutActive, ActiveLimitExceeded, Suppressed, Acknowledged, Unauthorized, AuditFailed, NotFound, Expired, Alarms, Counts, Summary, Events, Head, headBytes, headOf, alarmRecord, alarmRecords, answerBytes}
-use Rattle.definition.specs.Laws.Steps.AnswerLength.{length-head, length-alarmRecord, length-alarmRecords}
+use Rattle.definition.specs.Laws.Steps.Answers.{length-head, length-alarmRecord, length-alarmRecords, lists, blankAnswer}
 use Rattle.definition.specs.Laws.Book.Contents.{length-map}
-use Rattle.definition.specs.Laws.Steps.LegalSteps.{lists}
-use Rattle.definition.specs.Laws.Twins.Blank.{blank, blankAnswer}
+use Rattle.definition.specs.Laws.Twins.Blank.{blank}
 use Rattle.definition.specs.Mask.{textsAt, textsWidth, maskRecord, maskRecords, listsRecords, holdsRecord, maskAnswer}
-use Rattle.definition.specs.Laws.Twins.Mask.{mask-payload}
+use Rattle.definition.specs.Laws.Twins.MaskRegister.{mask-payload}
 
 -- ---- records behind some bytes
 

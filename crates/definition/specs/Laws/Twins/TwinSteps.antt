@@ -1,4 +1,4 @@
--- Every call on twins leaves twins: policy calls, reports, and all calls together.
+-- Every call on twins leaves twins: policy calls, reports, and all calls together. For the claim, and for KeptLegal.
 use Prim.Native.Nat.{ℕ}
 use mathlib.Core.Path.{_≡_, refl, sym, ap, ap₂, _∙_, subst}
 use mathlib.Core.List.{List, [], _∷_, _++_, map}
@@ -15,20 +15,18 @@ use Rattle.definition.specs.Laws.Book.Contents.{map-map, those-map}
 use Rattle.definition.specs.Alarm.{Alarm, Event, hasId, hasSeverity, inScope, isCritical}
 use Rattle.definition.specs.Station.{Station, Step, _>>_, give, forEach, addAudit, oldestAuditOf, freeOldestAudit, oneMore, countSuccess, countFailure}
 use Rattle.definition.specs.Answer.{Answer, Alarms, Counts, Summary, Events, answerBytes}
-use Rattle.definition.specs.Laws.Steps.AnswerLength.{size-blank}
+use Rattle.definition.specs.Laws.Steps.Answers.{size-blank, blankAnswer, kindOf}
 use Rattle.definition.specs.Steps.{eventStored, eventLost, attempt, eventOf, deny, allow, needsOverride, policyAt, policy}
 use Rattle.definition.specs.Reports.{activeList, historyList, rating, tally, counts, severityOf, worst, worstImpact, summary, freeOne, takeAudit}
 use Rattle.definition.specs.Perform.{stepFor, inLength, asksRecord, inRoom, perform}
-use Rattle.definition.specs.Contracts.LegalFields.{Time, Each, LegalEvent, LegalPolicy, LegalCall}
+use Rattle.definition.specs.Contracts.LegalFields.{Time, LegalEvent, LegalPolicy, LegalCall}
 use Rattle.definition.specs.Laws.Steps.ChangedLegal.{event-legal}
-use Rattle.definition.specs.Laws.Steps.FieldMoves.{each-last}
 use Rattle.definition.specs.Laws.Steps.LegalMoves.{addAudit-legal, freeOldestAudit-legal, countSuccess-legal, countFailure-legal}
-use Rattle.definition.specs.Laws.Text.Kind.{kindOf}
-use Rattle.definition.specs.Laws.Twins.Blank.{blank, blankAnswer}
+use Rattle.definition.specs.Laws.Twins.Blank.{blank}
 use Rattle.definition.specs.Twins.{AtEach}
 use Rattle.definition.specs.Laws.Steps.PairedChains.{length-each}
 use Rattle.definition.specs.Laws.Steps.SideBySide.{Match, meet, Related, Only, give-related, look-related, refuse-related, cond-related, cond-both, pre-related, known-related, bind-related, then-related, test-related}
-use Rattle.definition.specs.Laws.Steps.Alike.{On, Told, worded, go-on, search-like}
+use Rattle.definition.specs.Laws.Steps.Alike.{BothLegal, On, Told, worded, go-on, search-like}
 use Rattle.definition.specs.Laws.Steps.AlikeSteps.{told, quiet, act-like, raise-like, clear-like, plain-like, expire-like, inRecord-like}
 use Rattle.definition.specs.Laws.Twins.TwinStations.{TwinAt, TwinRest, twin, match-taking, twin-lasts}
 
@@ -44,23 +42,25 @@ module _ (n : ℕ) (d d′ : List (Entry Alarm)) where
     from = λ s t (p, q).
         let r = p .rest in
         let room = leb-false (s .limitE) (length (s .audit)) q in
-        meet (addAudit-legal s (p .legal) v room) (addAudit-legal t (p .legal′) v (omega (arith, room, r .0 .0 .1, ap length (r .0 .1 .0))))
-        (match-taking TwinRest _ _ s t (r .2) (λ i f u.
-        ((r .0 .0, (ap (λ (c : List (Entry Event)). c ++ (entry i v ∷ [])) (r .0 .1 .0), each-last LegalEvent (s .audit) i v (r .0 .1 .1) h), r .0 .2), r .1, refl))) (λ s′ t′ x y z. go-on p x y z);
+        meet (addAudit-legal s (p .legal) v h room) (addAudit-legal t (p .legal′) v h (omega (arith, room, r .limits .1, ap length (r .audit))))
+        (match-taking TwinRest _ _ s t (r .free) (λ i f u.
+        record { limits = r .limits; history = r .history; audit = ap (λ (c : List (Entry Event)). c ++ (entry i v ∷ [])) (r .audit); free = refl; counters = r .counters })) (λ s′ t′ x y z. go-on p x y z);
   }
 
   count-success : Related Here (Only Here) countSuccess countSuccess
   unfolding countSuccess
   count-success = record {
     from = λ s t p. let r = p .rest in
-        meet {R = TwinRest} (countSuccess-legal s (p .legal)) (countSuccess-legal t (p .legal′)) ((r .0 .0, r .0 .1, (ap oneMore (r .0 .2 .0), r .0 .2 .1)), r .1, r .2) (λ s′ t′ x y z. go-on p x y z);
+        meet {R = TwinRest} (countSuccess-legal s (p .legal)) (countSuccess-legal t (p .legal′))
+        (record { limits = r .limits; history = r .history; audit = r .audit; free = r .free; counters = (ap oneMore (r .counters .0), r .counters .1) }) (λ s′ t′ x y z. go-on p x y z);
   }
 
   count-failure : Related Here (Only Here) countFailure countFailure
   unfolding countFailure
   count-failure = record {
     from = λ s t p. let r = p .rest in
-        meet {R = TwinRest} (countFailure-legal s (p .legal)) (countFailure-legal t (p .legal′)) ((r .0 .0, r .0 .1, (r .0 .2 .0, ap oneMore (r .0 .2 .1))), r .1, r .2) (λ s′ t′ x y z. go-on p x y z);
+        meet {R = TwinRest} (countFailure-legal s (p .legal)) (countFailure-legal t (p .legal′))
+        (record { limits = r .limits; history = r .history; audit = r .audit; free = r .free; counters = (r .counters .0, ap oneMore (r .counters .1)) }) (λ s′ t′ x y z. go-on p x y z);
   }
 
   free-audit : Related Here (Only Here) freeOldestAudit freeOldestAudit
@@ -68,12 +68,12 @@ module _ (n : ℕ) (d d′ : List (Entry Alarm)) where
   free-audit = record {
     from = λ s t p. let r = p .rest in
         meet {R = TwinRest} (freeOldestAudit-legal s (p .legal)) (freeOldestAudit-legal t (p .legal′))
-        (subst (λ (c : List (Entry Event)). Match TwinRest (oldestAuditOf (s .audit) s) (oldestAuditOf c t)) (r .0 .1 .0) (go s t r (s .audit) (r .0 .1 .1))) (λ s′ t′ x y z. go-on p x y z);
+        (subst (λ (c : List (Entry Event)). Match TwinRest (oldestAuditOf (s .audit) s) (oldestAuditOf c t)) (r .audit) (go s t r (s .audit))) (λ s′ t′ x y z. go-on p x y z);
   }
     where
-      go : (s t : Station) → TwinRest s t → (c : List (Entry Event)) → Each LegalEvent c → Match TwinRest (oldestAuditOf c s) (oldestAuditOf c t)
-      go s t r [] h = r
-      go s t r (e ∷ c) h = ((r .0 .0, (refl, h .1), r .0 .2), r .1, ap (_∷_ (e .index)) (r .2))
+      go : (s t : Station) → TwinRest s t → (c : List (Entry Event)) → Match TwinRest (oldestAuditOf c s) (oldestAuditOf c t)
+      go s t r [] = r
+      go s t r (e ∷ c) = record { limits = r .limits; history = r .history; audit = refl; free = ap (_∷_ (e .index)) (r .free); counters = r .counters }
 
   -- on both, or on neither
   abbrev Stored : Bool → Bool → Station → Station → Type 0
@@ -82,7 +82,7 @@ module _ (n : ℕ) (d d′ : List (Entry Alarm)) where
   attempt-twin : (v v′ : Event) → v ≡ v′ → LegalEvent v → Related Here Stored (attempt v) (attempt v′)
   unfolding attempt eventLost eventStored
   attempt-twin v v′ e h = subst (λ (w : Event). Related Here Stored (attempt v) (attempt w)) e
-      (test-related _ (λ s t p. ap₂ leb (p .rest .0 .0 .1) (ap length (p .rest .0 .1 .0)))
+      (test-related _ (λ s t p. ap₂ leb (p .rest .limits .1) (ap length (p .rest .audit)))
       (pre-related (λ s t p. p .0) (then-related count-failure (give-related (λ s t p. (refl, p)))))
       (then-related (add-audit v h) (then-related count-success (give-related (λ s t p. (refl, p))))))
 
@@ -95,65 +95,67 @@ deny-twin : {n : ℕ} {d d′ : List (Entry Alarm)} (v v′ : Event) (m : Bytes)
 unfolding deny
 deny-twin {n} {d} {d′} v v′ m e h = bind-related (attempt-twin n d d′ v v′ e h) (λ b b′. pre-related (λ s t p. p .1) (quiet twin-lasts refl refl))
 
-allow-twin : {n : ℕ} (x : Action) (t : ℕ) (v v′ : Event) (e e′ : Entry Alarm) → TwinAt 3 e e′ → Time t → v ≡ v′ → LegalEvent v → Related (On twin n (e ∷ []) (e′ ∷ [])) (Told twin 0 n) (allow x t v e) (allow x t v′ e′)
+allow-twin : {n : ℕ} (x : Action) (t : ℕ) (v v′ : Event) (e e′ : Entry Alarm) → TwinAt e e′ → BothLegal 3 (e .content) (e′ .content) → Time t → v ≡ v′ → LegalEvent v →
+    Related (On twin n (e ∷ []) (e′ ∷ [])) (Told twin 0 n) (allow x t v e) (allow x t v′ e′)
 unfolding allow
-allow-twin {n} x t v v′ e e′ w u q h = bind-related (attempt-twin n (e ∷ []) (e′ ∷ []) v v′ q h) (λ b b′.
-    known-related (λ s t p. p .0) (λ z. pre-related (λ s t p. p .1) (cond-both z (act-like twin-lasts x t u e e′ w) (quiet twin-lasts refl refl))))
+allow-twin {n} x t v v′ e e′ w g u q h = bind-related (attempt-twin n (e ∷ []) (e′ ∷ []) v v′ q h) (λ b b′.
+    known-related (λ s t p. p .0) (λ z. pre-related (λ s t p. p .1) (cond-both z (act-like twin-lasts x t u e e′ w g) (quiet twin-lasts refl refl))))
 
 override-twin : (x : Action) (p : PolicyValue) (a a′ : Alarm) → blank a ≡ blank a′ → needsOverride x p a ≡ needsOverride x p a′
 unfolding needsOverride isCritical
 override-twin acknowledging p a a′ h = refl
 override-twin suppressing p a a′ h = ap (needsOverride suppressing p) h
 
-policyAt-twin : {n : ℕ} (x : Action) (p : PolicyValue) → LegalPolicy p → (e e′ : Entry Alarm) → TwinAt 3 e e′ → Related (On twin n (e ∷ []) (e′ ∷ [])) (Told twin 0 n) (policyAt x p (some e)) (policyAt x p (some e′))
+policyAt-twin : {n : ℕ} (x : Action) (p : PolicyValue) → LegalPolicy p → (e e′ : Entry Alarm) → TwinAt e e′ → BothLegal 3 (e .content) (e′ .content) →
+    Related (On twin n (e ∷ []) (e′ ∷ [])) (Told twin 0 n) (policyAt x p (some e)) (policyAt x p (some e′))
 unfolding policyAt eventOf
-policyAt-twin x p h e e′ w =
+policyAt-twin x p h e e′ w g =
     let q = w .1 in
-    cond-both (override-twin x p (e .content) (e′ .content) (q .0)) (deny-twin _ _ _ (ap (eventOf x 1 p) (q .0)) (event-legal x 1 p (e .content) (omega arith) h (q .1)))
-    (cond-related (eqb (p .verdict .authorised) 0) (deny-twin _ _ _ (ap (eventOf x 1 p) (q .0)) (event-legal x 1 p (e .content) (omega arith) h (q .1)))
-    (allow-twin x _ _ _ e e′ w (h .time) (ap (eventOf x 0 p) (q .0)) (event-legal x 0 p (e .content) (omega arith) h (q .1))))
+    cond-both (override-twin x p (e .content) (e′ .content) q) (deny-twin _ _ _ (ap (eventOf x 1 p) q) (event-legal x 1 p (e .content) (omega arith) h (g .0)))
+    (cond-related (eqb (p .verdict .authorised) 0) (deny-twin _ _ _ (ap (eventOf x 1 p) q) (event-legal x 1 p (e .content) (omega arith) h (g .0)))
+    (allow-twin x _ _ _ e e′ w g (h .time) (ap (eventOf x 0 p) q) (event-legal x 0 p (e .content) (omega arith) h (g .0))))
 
 policy-twin : {n : ℕ} (x : Action) (p : PolicyValue) → LegalPolicy p → Related (Twin n) (Told twin 0 n) (policy x p) (policy x p)
 unfolding policy policyAt
 policy-twin x p h =
-    search-like twin-lasts _ _ (hasId (p .actor .id)) (λ e e′ q. ap (same (p .actor .id)) (twin-lasts .ids q)) (λ s t q. q) (quiet twin-lasts refl refl) (policyAt-twin x p h)
+    search-like twin-lasts _ _ (hasId (p .actor .id)) (λ e e′ q. ap (same (p .actor .id)) (twin-lasts .ids {e = e} {e′ = e′} q)) (λ s t q. q) (quiet twin-lasts refl refl) (policyAt-twin x p h)
 
 -- ---- reports
 
-blanks-twin : (top : ℕ) (c c′ : List (Entry Alarm)) → AtEach (TwinAt top) c c′ → map blank (contents c) ≡ map blank (contents c′)
-blanks-twin top [] [] h = refl
-blanks-twin top [] (e ∷ c) h = absurd h
-blanks-twin top (e ∷ c) [] h = absurd h
-blanks-twin top (e ∷ c) (e′ ∷ c′) h = ap₂ _∷_ (h .0 .1 .0) (blanks-twin top c c′ (h .1))
+blanks-twin : (c c′ : List (Entry Alarm)) → AtEach TwinAt c c′ → map blank (contents c) ≡ map blank (contents c′)
+blanks-twin [] [] h = refl
+blanks-twin [] (e ∷ c) h = absurd h
+blanks-twin (e ∷ c) [] h = absurd h
+blanks-twin (e ∷ c) (e′ ∷ c′) h = ap₂ _∷_ (h .0 .1) (blanks-twin c c′ (h .1))
 
 -- what a blind test finds
-listed : (top : ℕ) (t : Alarm → Bool) → ((a : Alarm) → t (blank a) ≡ t a) → (c c′ : List (Entry Alarm)) → AtEach (TwinAt top) c c′ →
+listed : (t : Alarm → Bool) → ((a : Alarm) → t (blank a) ≡ t a) → (c c′ : List (Entry Alarm)) → AtEach TwinAt c c′ →
     blankAnswer (Alarms (those t (contents c))) ≡ blankAnswer (Alarms (those t (contents c′)))
-listed top t b c c′ h = ap Alarms (sym (those-map blank t t b (contents c)) ∙ ap (those t) (blanks-twin top c c′ h) ∙ those-map blank t t b (contents c′))
+listed t b c c′ h = ap Alarms (sym (those-map blank t t b (contents c)) ∙ ap (those t) (blanks-twin c c′ h) ∙ those-map blank t t b (contents c′))
 
 -- what a blind function sees
-seen : {B : Type 0} (top : ℕ) (f : Alarm → B) → ((l : List Alarm) → map (λ a. f (blank a)) l ≡ map f l) → (c c′ : List (Entry Alarm)) → AtEach (TwinAt top) c c′ →
+seen : {B : Type 0} (f : Alarm → B) → ((l : List Alarm) → map (λ a. f (blank a)) l ≡ map f l) → (c c′ : List (Entry Alarm)) → AtEach TwinAt c c′ →
     map f (contents c) ≡ map f (contents c′)
-seen top f b c c′ h = sym (map-map f blank (contents c) ∙ b (contents c)) ∙ ap (map f) (blanks-twin top c c′ h) ∙ map-map f blank (contents c′) ∙ b (contents c′)
+seen f b c c′ h = sym (map-map f blank (contents c) ∙ b (contents c)) ∙ ap (map f) (blanks-twin c c′ h) ∙ map-map f blank (contents c′) ∙ b (contents c′)
 
 activeList-twin : {n : ℕ} (v : ℕ) → Related (Twin n) (Told twin 8 n) (activeList v) (activeList v)
 unfolding activeList
-activeList-twin v = look-related (λ s t p. told twin-lasts (listed 3 (hasSeverity v) (λ a. refl) (s .active) (t .active) (p .pairs)) refl (omega arith) s t p)
+activeList-twin v = look-related (λ s t p. told twin-lasts (listed (hasSeverity v) (λ a. refl) (s .active) (t .active) (p .pairs)) refl (omega arith) s t p)
 
 historyList-twin : {n : ℕ} (u w : Option Bytes) → Related (Twin n) (Told twin 8 n) (historyList u w) (historyList u w)
 unfolding historyList
-historyList-twin u w = look-related (λ s t p. told twin-lasts (listed 5 (inScope u w) (λ a. refl) (s .history) (t .history) (p .rest .1)) refl (omega arith) s t p)
+historyList-twin u w = look-related (λ s t p. told twin-lasts (listed (inScope u w) (λ a. refl) (s .history) (t .history) (p .rest .history)) refl (omega arith) s t p)
 
 counts-twin : {n : ℕ} → Related (Twin n) (Told twin 0 n) counts counts
 unfolding counts
-counts-twin = look-related (λ s t p. told twin-lasts (ap (λ l. Counts (tally l)) (seen 3 rating (λ l. refl) (s .active) (t .active) (p .pairs))) refl (omega arith) s t p)
+counts-twin = look-related (λ s t p. told twin-lasts (ap (λ l. Counts (tally l)) (seen rating (λ l. refl) (s .active) (t .active) (p .pairs))) refl (omega arith) s t p)
 
 summary-twin : {n : ℕ} → Related (Twin n) (Told twin 0 n) summary summary
 unfolding summary
 summary-twin = look-related (λ s t p.
-    let v = seen 3 severityOf (λ l. refl) (s .active) (t .active) (p .pairs) in
-    let z = length-each (TwinAt 3) (s .active) (t .active) (p .pairs) in
-    let r = p .rest .0 .2 in
+    let v = seen severityOf (λ l. refl) (s .active) (t .active) (p .pairs) in
+    let z = length-each TwinAt (s .active) (t .active) (p .pairs) in
+    let r = p .rest .counters in
     told twin-lasts (λ i. Summary (record { active = z i; worst = worst (v i); readiness = worstImpact (v i); successes = r .0 i; failures = r .1 i })) refl (omega arith) s t p)
 
 frees-twin : {n : ℕ} (d : List (Entry Event)) → Related (Twin n) (Only (Twin n)) (forEach d freeOne) (forEach d freeOne)
@@ -164,7 +166,7 @@ frees-twin {n} (e ∷ d) = then-related (free-audit n [] []) (frees-twin d)
 takeAudit-twin : {n : ℕ} (i : ℕ) → Related (Twin n) (Told twin 0 n) (takeAudit i) (takeAudit i)
 unfolding takeAudit
 takeAudit-twin {n} i =
-    bind-related {Q = λ d d′ s t. (d ≡ d′) × Twin n s t} (look-related (λ s t p. (ap (take i) (p .rest .0 .1 .0), p)))
+    bind-related {Q = λ d d′ s t. (d ≡ d′) × Twin n s t} (look-related (λ s t p. (ap (take i) (p .rest .audit), p)))
     (λ d d′. known-related (λ s t p. p .0) (λ e. pre-related (λ s t p. p .1)
     (subst (λ (c : List (Entry Event)). Related (Twin n) (Told twin 0 n) (_>>_ (forEach d freeOne) (give (Events (contents d)))) (_>>_ (forEach c freeOne) (give (Events (contents c))))) e
     (then-related (frees-twin d) (quiet twin-lasts refl refl)))))
@@ -188,7 +190,7 @@ pub data TwinCalls : CallValue → CallValue → Type 0 where
   reworded : (c : RaiseValue) (t : Bytes) (d : Option Bytes) → TwinCalls (CallValue.raise c) (CallValue.raise (worded t d c))
 
 step-twin : {n : ℕ} (c : CallValue) → LegalCall c → Related (Twin n) (Told twin (kindOf (opOf c)) n) (stepFor c) (stepFor c)
-step-twin (CallValue.raise c) h = raise-like twin-lasts {c = c} {w = c .text} {d = c .details} (h, h)
+step-twin (CallValue.raise c) h = raise-like twin-lasts {c = c} {w = c .text} {d = c .details} tt h h
 step-twin (CallValue.clear c) h = clear-like twin-lasts c h
 step-twin (CallValue.plain acknowledging p) h = plain-like twin-lasts acknowledging p h
 step-twin (CallValue.plain suppressing p) h = plain-like twin-lasts suppressing p h
@@ -205,4 +207,4 @@ step-twin (CallValue.refused i) h = refuse-related (omega (arith, h))
 pub perform-twin : {n : ℕ} {c c′ : CallValue} (k : ℕ) → TwinCalls c c′ → LegalCall c → LegalCall c′ → Related (Twin n) (Told twin (kindOf (opOf c)) n) (perform c k) (perform c′ k)
 unfolding perform
 perform-twin k (alike c) h h′ = inRoom-twin (opOf c) k (step-twin c h)
-perform-twin k (reworded c t d) h h′ = inRoom-twin 1 k (raise-like twin-lasts {c = c} {w = t} {d = d} (h, h′))
+perform-twin k (reworded c t d) h h′ = inRoom-twin 1 k (raise-like twin-lasts {c = c} {w = t} {d = d} tt h h′)

@@ -1,16 +1,95 @@
--- How long answers are: no text and no details count.
+-- What an answer says of the active chain, the answer without texts, and how long it is. For the laws of steps and twins, and for the code that
+-- writes answers (`answers`, `alarm_lists`, `metrics`, `audit_log`).
 use Prim.Native.Nat.{ℕ, _+_, _*_}
 use mathlib.Core.Path.{_≡_, refl, sym, ap, _∙_}
 use mathlib.Core.List.{List, [], _∷_, map}
+use mathlib.Core.Bool.{Bool, true, false, cond}
 use native.Mathlib.Omega.{arith}
+use lib.Dec.{eqb}
+use borrow.Author.Tests.{eqb-true}
 use lib.ListN.{length, length-append}
 use Rattle.octets.specs.Bytes.{be32, be64}
 use Rattle.octets.specs.NumberLaws.{length-digits}
+use Rattle.definition.specs.Value.{CallValue, opOf}
+use Rattle.definition.specs.Mask.{listsRecords}
 use Rattle.definition.specs.Alarm.{Alarm, Event}
-use Rattle.definition.specs.Laws.Record.Record.{length-alarm, length-event}
+use Rattle.definition.specs.Laws.Record.Payloads.{length-alarm, length-event}
 use Rattle.definition.specs.Answer.{Answer, Raised, Updated, Cleared, ClearWithoutActive, ActiveLimitExceeded, Suppressed, Acknowledged, Unauthorized, AuditFailed, NotFound, Expired, Alarms, Counts, Summary, Events, Head, headBytes, headOf, alarmRecord, eventRecord, alarmRecords, eventRecords, body, answerBytes}
 use Rattle.definition.specs.Laws.Book.Contents.{length-map}
-use Rattle.definition.specs.Laws.Twins.Blank.{blank, blankAnswer}
+use Rattle.definition.specs.Laws.Twins.Blank.{blank}
+
+-- ---- what an answer says
+
+-- how many alarms came onto the active chain, how many went off it, and of which kind the answer is: 8 where alarms are listed, as
+-- operations 8 and 9 do, 7 for operation 7, and 0 else
+pub record Said : Type 0 where
+  pub came : ℕ
+  pub went : ℕ
+  pub kind : ℕ
+
+abbrev pub tells : ℕ → ℕ → ℕ → Said
+tells c w k = record { came = c; went = w; kind = k }
+
+abbrev pub said : Answer → Said
+said (Raised a) = tells 1 0 0
+said (Updated a) = tells 0 0 0
+said (Cleared i) = tells 0 1 0
+said (ClearWithoutActive k c) = tells 0 0 0
+said (ActiveLimitExceeded k n) = tells 0 0 0
+said (Suppressed a) = tells 0 0 0
+said (Acknowledged a) = tells 0 0 0
+said (Unauthorized m) = tells 0 0 0
+said (AuditFailed m) = tells 0 0 0
+said (NotFound i) = tells 0 0 0
+said (Expired n) = tells 0 n 7
+said (Alarms l) = tells 0 0 8
+said (Counts l) = tells 0 0 0
+said (Summary t) = tells 0 0 0
+said (Events l) = tells 0 0 0
+
+abbrev pub lists : Answer → Bool
+lists x = eqb (said x .kind) 8
+
+-- the kind of an operation's answers
+abbrev pub kindOf : ℕ → ℕ
+kindOf op = cond (eqb op 7) 7 (cond (listsRecords op) 8 0)
+
+abbrev pub listing : CallValue → Bool
+listing c = eqb (kindOf (opOf c)) 8
+
+-- its answers list alarms for operations 8 and 9, and for no other
+pub lists-op : (op : ℕ) → eqb (kindOf op) 8 ≡ listsRecords op
+lists-op op = go (eqb op 7) refl
+  where
+    other : (b : Bool) → eqb (cond b 8 0) 8 ≡ b
+    other true = refl
+    other false = refl
+
+    go : (b : Bool) → eqb op 7 ≡ b → eqb (cond b 7 (cond (listsRecords op) 8 0)) 8 ≡ listsRecords op
+    go true p = rw (eqb-true op 7 p)
+    go false p = other (listsRecords op)
+
+-- ---- without texts and details
+
+-- in answers of codes 1, 2, 6, 7 and ops 8, 9
+abbrev pub blankAnswer : Answer → Answer
+blankAnswer (Raised a) = Raised (blank a)
+blankAnswer (Updated a) = Updated (blank a)
+blankAnswer (Cleared i) = Cleared i
+blankAnswer (ClearWithoutActive k c) = ClearWithoutActive k c
+blankAnswer (ActiveLimitExceeded k n) = ActiveLimitExceeded k n
+blankAnswer (Suppressed a) = Suppressed (blank a)
+blankAnswer (Acknowledged a) = Acknowledged (blank a)
+blankAnswer (Unauthorized m) = Unauthorized m
+blankAnswer (AuditFailed m) = AuditFailed m
+blankAnswer (NotFound i) = NotFound i
+blankAnswer (Expired n) = Expired n
+blankAnswer (Alarms l) = Alarms (map blank l)
+blankAnswer (Counts l) = Counts l
+blankAnswer (Summary t) = Summary t
+blankAnswer (Events l) = Events l
+
+-- ---- how long an answer is: no text and no details count
 
 pub length-alarmRecord : (a : Alarm) → length (alarmRecord a) ≡ 1536
 length-alarmRecord a = length-append (be32 0) _ ∙ omega (arith, length-digits 4 0, length-alarm a)

@@ -1,4 +1,4 @@
--- What the parser gives of a call's bytes has legal fields, and its refusals are below 30.
+-- What each reader of a call's fields gives is legal, and its refusals are below 30. For whole calls (ParsedLegal).
 use Prim.Native.Nat.{ℕ, _^_, _≤_, _<_}
 use mathlib.Core.Path.{_≡_, refl, _∙_}
 use mathlib.Core.List.{[], _∷_}
@@ -10,32 +10,32 @@ use lib.ListN.{length, take, drop, length-take}
 use borrow.Author.Tests.{leb-true}
 use Rattle.octets.specs.Bytes.{Bytes, Octets}
 use Rattle.octets.specs.BoolLaws.{both-right, holds, true-holds}
-use Rattle.octets.specs.NumberLaws.{octets-take, octets-drop, octets-tail, value-lt}
+use Rattle.octets.specs.NumberLaws.{octets-take, octets-drop, value-lt}
 use Rattle.definition.specs.Limits.{shortLimit, causeLimit, regionLimit, textLimit, detailsLimit}
 use Rattle.definition.specs.Utf8.{utf8}
 use Rattle.definition.specs.Cause.{causeOf}
 use Rattle.definition.specs.Laws.Text.Cause.{cause-stored, cause-length, cause-utf8}
-use Rattle.definition.specs.Value.{ObjectValue, PlacesValue, KeyValue, RaiseHeadValue, ScopeValue, ActorValue, RequestValue, CallValue, acknowledging, suppressing}
+use Rattle.definition.specs.Value.{ObjectValue, PlacesValue, KeyValue, RaiseHeadValue, ScopeValue, ActorValue, RequestValue}
 use Rattle.definition.specs.Reader.{Out, got, bad, Reader, next, _>>=_, give, refuse, into, bytes, number, choice, blob, text, optional, causeIs, causeText}
-use Rattle.definition.specs.Parse.{pair, sessionStore, dataPlaneQueue, objectOf, object, scopeOf, scope, raiseHead, places, key, raiseBody, named, raiseFields, clearFields, plainFields, actor, request, verdict, policyFields, severityOrAll, historyFields, fieldsOf, whole, parseCall}
-use Rattle.definition.specs.Contracts.LegalFields.{Time, Maybe, BlobOf, TextOf, CauseOf, ObjectOf, LegalKey, LegalScope, LegalRaise, LegalPolicy, LegalCall}
+use Rattle.definition.specs.Parse.{pair, sessionStore, dataPlaneQueue, objectOf, object, scopeOf, scope, raiseHead, places, key, raiseBody, named, raiseFields, clearFields, plainFields, actor, request, verdict, policyFields, severityOrAll}
+use Rattle.definition.specs.Contracts.LegalFields.{Time, Maybe, BlobOf, TextOf, CauseOf, ObjectOf, LegalKey, LegalScope, LegalRaise, LegalPolicy}
 
 -- ---- a reader that gives a P of bytes, or refuses with a number below 30
 
-data Given {A : Type 0} (P : A → Type 0) : Out A → Type 0 where
+pub data Given {A : Type 0} (P : A → Type 0) : Out A → Type 0 where
   gave : {a : A} {u : Bytes} → P a → Octets u → Given P (got a u)
   refuses : {n : ℕ} → n < 30 → Given P (bad n)
 
-record Reads {A : Type 0} (P : A → Type 0) (r : Reader A) : Type 0 where
-  reads : (s : Bytes) → Octets s → Given P (r s)
+pub record Reads {A : Type 0} (P : A → Type 0) (r : Reader A) : Type 0 where
+  pub reads : (s : Bytes) → Octets s → Given P (r s)
 
-give-reads : {A : Type 0} (P : A → Type 0) (a : A) → P a → Reads P (give a)
+pub give-reads : {A : Type 0} (P : A → Type 0) (a : A) → P a → Reads P (give a)
 give-reads P a p = record { reads = λ s o. gave p o }
 
-refuse-reads : {A : Type 0} {P : A → Type 0} (n : ℕ) → n < 30 → Reads P (refuse n)
+pub refuse-reads : {A : Type 0} {P : A → Type 0} (n : ℕ) → n < 30 → Reads P (refuse n)
 refuse-reads n h = record { reads = λ s o. refuses h }
 
-if-reads : {A : Type 0} {P : A → Type 0} (b : Bool) (q r : Reader A) → (b ≡ true → Reads P q) → (b ≡ false → Reads P r) → Reads P (cond b q r)
+pub if-reads : {A : Type 0} {P : A → Type 0} (b : Bool) (q r : Reader A) → (b ≡ true → Reads P q) → (b ≡ false → Reads P r) → Reads P (cond b q r)
 if-reads true q r x y = x refl
 if-reads false q r x y = y refl
 
@@ -44,11 +44,11 @@ module _ {A B : Type 0} {P : A → Type 0} {Q : B → Type 0} (m : Reader A) (k 
   then-given q (gave {a} {u} p o) = q a p .reads u o
   then-given q (refuses h) = refuses h
 
-  bind-reads : Reads P m → ((a : A) → P a → Reads Q (k a)) → Reads Q (_>>=_ m k)
+  pub bind-reads : Reads P m → ((a : A) → P a → Reads Q (k a)) → Reads Q (_>>=_ m k)
   unfolding _>>=_
   bind-reads p q = record { reads = λ s o. then-given q (p .reads s o) }
 
-into-reads : {A B : Type 0} {P : A → Type 0} (Q : B → Type 0) (c : A → B) (r : Reader A) → Reads P r → ((a : A) → P a → Q (c a)) → Reads Q (into c r)
+pub into-reads : {A B : Type 0} {P : A → Type 0} (Q : B → Type 0) (c : A → B) (r : Reader A) → Reads P r → ((a : A) → P a → Q (c a)) → Reads Q (into c r)
 unfolding into
 into-reads Q c r p q = bind-reads _ _ p (λ a h. give-reads Q (c a) (q a h))
 
@@ -65,7 +65,7 @@ bytes-reads n = record { reads = λ s o. go s o (leb n (length s)) refl }
     go s o true p = gave (length-take n s ∙ omega (arith, leb-true n (length s) p), octets-take n s o) (octets-drop n s o)
     go s o false p = refuses {n = 24} (omega arith)
 
-number-reads : (n : ℕ) → Reads (λ v. v < 256 ^ n) (number n)
+pub number-reads : (n : ℕ) → Reads (λ v. v < 256 ^ n) (number n)
 unfolding number
 number-reads n = bind-reads _ _ (bytes-reads n) (λ b p. give-reads _ _ (rw (← (p .0)) (value-lt b (p .1))))
 
@@ -94,7 +94,7 @@ unfolding optional
 optional-reads P r l = bind-reads _ _ (choice-reads 0 1) (λ p h. if-reads (eqb p 0) _ _
     (λ e. give-reads (Maybe P) none tt) (λ e. bind-reads _ _ l (λ t q. give-reads (Maybe P) (some t) q)))
 
-option-reads : (n : ℕ) → Reads (Maybe (TextOf n)) (optional (text n))
+pub option-reads : (n : ℕ) → Reads (Maybe (TextOf n)) (optional (text n))
 option-reads n = optional-reads (TextOf n) (text n) (text-reads n)
 
 causeIs-reads : (t : Bytes) → TextOf causeLimit t → (o : Option Bytes) → causeOf t ≡ o → Reads CauseOf (causeIs o)
@@ -208,17 +208,17 @@ body-reads h k ph pk =
     bind-reads _ _ (text-reads textLimit) (λ x px. bind-reads _ _ (optional-reads (BlobOf detailsLimit) _ (blob-reads detailsLimit)) (λ d pd.
     give-reads LegalRaise _ (record { time = ph .time; id = ph .id; type = ph .type; severity = ph .severity; key = pk; text = px; details = pd })))
 
-raise-reads : Reads LegalRaise raiseFields
+pub raise-reads : Reads LegalRaise raiseFields
 unfolding raiseFields
 raise-reads =
     bind-reads _ _ head-reads (λ h ph. bind-reads _ _ key-reads (λ k pk. if-reads (named (k .places .region)) _ _
     (λ e. body-reads h k ph (legal-key k pk e)) (λ e. refuse-reads 29 (omega arith))))
 
-clear-reads : Reads (λ c. Time (c .time)) clearFields
+pub clear-reads : Reads (λ c. Time (c .time)) clearFields
 unfolding clearFields
 clear-reads = bind-reads _ _ (number-reads 8) (λ t pt. bind-reads _ _ (text-reads shortLimit) (λ y py. bind-reads _ _ key-reads (λ k pk. give-reads _ _ pt)))
 
-plain-reads : Reads (λ p. Time (p .time)) plainFields
+pub plain-reads : Reads (λ p. Time (p .time)) plainFields
 unfolding plainFields
 plain-reads = bind-reads _ _ (number-reads 8) (λ t pt. bind-reads _ _ (text-reads shortLimit) (λ i pi. bind-reads _ _ (choice-reads 0 1) (λ a pa. give-reads _ _ pt)))
 
@@ -248,49 +248,13 @@ verdict-reads : Reads (λ v. Unit {0}) verdict
 unfolding verdict
 verdict-reads = bind-reads _ _ (choice-reads 0 1) (λ c pc. bind-reads _ _ (choice-reads 0 1) (λ z pz. bind-reads _ _ (text-reads regionLimit) (λ d pd. give-reads _ _ tt)))
 
-policy-reads : Reads LegalPolicy policyFields
+pub policy-reads : Reads LegalPolicy policyFields
 unfolding policyFields
 policy-reads =
     bind-reads _ _ actor-reads (λ a pa. bind-reads _ _ request-reads (λ r pr. bind-reads _ _ verdict-reads (λ v pv.
     give-reads LegalPolicy _
     (record { time = pa .time; principal = pa .principal; tenant = pa .tenant; reason = pr .reason; scope = pr .scope; correlation = pr .correlation }))))
 
-severity-reads : Reads (λ v. Unit {0}) severityOrAll
+pub severity-reads : Reads (λ v. Unit {0}) severityOrAll
 unfolding severityOrAll
 severity-reads = bind-reads _ _ (number-reads 1) (λ b pb. if-reads (leb b 5 || eqb b 255) _ _ (λ e. give-reads _ _ tt) (λ e. refuse-reads 25 (omega arith)))
-
-history-reads : Reads LegalCall historyFields
-unfolding historyFields
-history-reads = bind-reads _ _ (option-reads shortLimit) (λ t pt. bind-reads _ _ (option-reads shortLimit) (λ s ps. give-reads LegalCall _ tt))
-
-fields-reads : (op : ℕ) → Reads LegalCall (fieldsOf op)
-unfolding fieldsOf
-fields-reads op =
-    if-reads (eqb op 1) _ _ (λ e. into-reads LegalCall CallValue.raise _ raise-reads (λ c p. p)) (λ e.
-    if-reads (eqb op 2) _ _ (λ e. into-reads LegalCall CallValue.clear _ clear-reads (λ c p. p)) (λ e.
-    if-reads (eqb op 3) _ _ (λ e. into-reads LegalCall (CallValue.plain acknowledging) _ plain-reads (λ c p. p)) (λ e.
-    if-reads (eqb op 4) _ _ (λ e. into-reads LegalCall (CallValue.plain suppressing) _ plain-reads (λ c p. p)) (λ e.
-    if-reads (eqb op 5) _ _ (λ e. into-reads LegalCall (CallValue.policy acknowledging) _ policy-reads (λ c p. p)) (λ e.
-    if-reads (eqb op 6) _ _ (λ e. into-reads LegalCall (CallValue.policy suppressing) _ policy-reads (λ c p. p)) (λ e.
-    if-reads (eqb op 7) _ _ (λ e. into-reads LegalCall CallValue.expire _ (number-reads 8) (λ c p. p)) (λ e.
-    if-reads (eqb op 8) _ _ (λ e. into-reads LegalCall CallValue.active _ severity-reads (λ c p. tt)) (λ e.
-    if-reads (eqb op 9) _ _ (λ e. history-reads) (λ e.
-    if-reads (eqb op 10) _ _ (λ e. give-reads LegalCall CallValue.counts tt) (λ e.
-    if-reads (eqb op 11) _ _ (λ e. give-reads LegalCall CallValue.summary tt) (λ e.
-    if-reads (eqb op 12) _ _ (λ e. into-reads LegalCall CallValue.takeAudit _ (number-reads 2) (λ c p. tt)) (λ e.
-    refuse-reads 23 (omega arith)))))))))))))
-
--- ---- the whole call
-
-whole-legal : {o : Out CallValue} → Given LegalCall o → LegalCall (whole o)
-whole-legal (gave {a} {u} p o) = go u
-  where
-    go : (s : Bytes) → LegalCall (whole (got a s))
-    go [] = p
-    go (b ∷ s) = omega arith
-whole-legal (refuses h) = h
-
-pub call-legal : (b : Bytes) → Octets b → LegalCall (parseCall b)
-unfolding parseCall
-call-legal [] o = omega arith
-call-legal (op ∷ s) o = whole-legal (fields-reads op .reads s (octets-tail op s o))

@@ -1,4 +1,5 @@
--- Masking a register's bytes is blanking its station: both fields, their lengths and presence are zero, and nothing else changes.
+-- Masking a register's bytes is blanking its station: both fields, their lengths and presence are zero, and nothing else changes. For the
+-- claim.
 use Prim.Native.Nat.{ℕ, zero, suc, _+_, _*_, _≤_, _<_}
 use mathlib.Core.Path.{_≡_, refl, sym, ap, ap₂, _∙_}
 use mathlib.Core.List.{List, [], _∷_, _++_, map, append-assoc}
@@ -13,23 +14,23 @@ use Rattle.octets.specs.SpliceLaws.{length-splice, splice-append, splice-front,
 use Rattle.definition.specs.Chain.{Entry, entry, onContent, times}
 use Rattle.definition.specs.Alarm.{Alarm}
 use Rattle.definition.specs.Record.{alarmBytes}
-use Rattle.definition.specs.Laws.Record.Record.{length-alarm}
+use Rattle.definition.specs.Laws.Record.Payloads.{length-alarm}
 use Rattle.definition.specs.Laws.Record.ChangedSlot.{mask-alarm}
 use Rattle.definition.specs.Book.{Record, Book, bookBytes}
 use Rattle.definition.specs.Laws.Book.RecordAt.{sized-append, sized-front, sized-back}
 use Rattle.definition.specs.Laws.Book.LegalChange.{fair}
 use Rattle.definition.specs.Laws.Book.ChangedChain.{with-self, chain-same}
 use Rattle.definition.specs.Laws.Book.Relink.{length-bytes}
-use Rattle.definition.specs.Laws.Book.Read.{index-range, read-payload, read-bytes}
+use Rattle.definition.specs.Laws.Book.ReadBack.{index-range, read-payload, read-bytes}
 use Rattle.definition.specs.Laws.Book.Replace.{replace-bytes, legal-with}
 use Rattle.definition.specs.Station.{Station}
-use Rattle.definition.specs.Contracts.LegalStation as S
+use Rattle.definition.specs.Contracts.LegalStation.{LegalChains}
 use Rattle.definition.specs.Sound.{bookOf, encode}
 use Rattle.definition.specs.Laws.Steps.StationBook.{book-legal}
 use Rattle.definition.specs.Laws.Book.Contents.{length-map}
 use Rattle.definition.specs.Laws.Twins.Blank.{blank, blankEntry, blankStation}
 use Rattle.definition.specs.Mask.{textsWidth, maskRecord, maskChain, maskRegister}
-use Rattle.definition.specs.Contracts.LegalBook.{Sized, Legal, chain}
+use Rattle.definition.specs.Contracts.LegalBook.{Sized, LegalBook, chain}
 use Rattle.definition.specs.Laws.Book.Occurrences.{times-append}
 use Rattle.definition.specs.Contracts.Moves.{withChain}
 
@@ -76,7 +77,7 @@ module _ (x : ℕ) (hx : x < 3) where
   x4 = omega arith
 
   -- the record behind a on chain x
-  module _ (s : Book) (l : Legal s) (a : List Record) (e : Record) (t : List Record) (is : chain x s ≡ a ++ (e ∷ t)) where
+  module _ (s : Book) (l : LegalBook s) (a : List Record) (e : Record) (t : List Record) (is : chain x s ≡ a ++ (e ∷ t)) where
     abbrev changed : List Record
     changed = a ++ (onContent maskPayload e ∷ t)
 
@@ -98,7 +99,7 @@ module _ (x : ℕ) (hx : x < 3) where
         ∙ ap (λ (p : Bytes). splice (bookBytes s) k (maskPayload p)) (read-payload s l x x4 a e t is)
         ∙ replace-bytes s (fair l) x x4 a e t is (maskPayload (e .content)) length-masked
 
-    legal-one : Legal (withChain x changed s)
+    legal-one : LegalBook (withChain x changed s)
     unfolding times
     legal-one =
         legal-with s l x hx changed
@@ -107,7 +108,7 @@ module _ (x : ℕ) (hx : x < 3) where
         (length-append a (onContent maskPayload e ∷ t) ∙ sym (ap length is ∙ length-append a (e ∷ t)))
 
   -- the records behind a
-  mask-chain : (s : Book) → Legal s → (a c : List Record) → chain x s ≡ a ++ c → maskChain c (bookBytes s) ≡ bookBytes (withChain x (a ++ map (onContent maskPayload) c) s)
+  mask-chain : (s : Book) → LegalBook s → (a c : List Record) → chain x s ≡ a ++ c → maskChain c (bookBytes s) ≡ bookBytes (withChain x (a ++ map (onContent maskPayload) c) s)
   unfolding maskChain
   mask-chain s l a [] is = ap bookBytes (sym (with-self x s x4) ∙ ap (λ (c : List Record). withChain x c s) is)
   mask-chain s l a (e ∷ c) is =
@@ -134,12 +135,12 @@ unfolding times
 times-masked [] j = refl
 times-masked (e ∷ c) j = rw (times-masked c j)
 
-legal-masked : (s : Book) → Legal s → Legal (withChain 0 (map (onContent maskPayload) (s .active)) s)
+legal-masked : (s : Book) → LegalBook s → LegalBook (withChain 0 (map (onContent maskPayload) (s .active)) s)
 legal-masked s l =
     legal-with s l 0 (omega arith) (map (onContent maskPayload) (s .active)) (sized-masked (s .active) (l .sized 0 (omega arith)))
     (times-masked (s .active)) (length-map (onContent maskPayload) (s .active))
 
-mask-book : (s : Book) → Legal s → maskRegister (bookBytes s) ≡ bookBytes (withChain 1 (map (onContent maskPayload) (s .history)) (withChain 0 (map (onContent maskPayload) (s .active)) s))
+mask-book : (s : Book) → LegalBook s → maskRegister (bookBytes s) ≡ bookBytes (withChain 1 (map (onContent maskPayload) (s .history)) (withChain 0 (map (onContent maskPayload) (s .active)) s))
 unfolding maskRegister
 mask-book s l =
     ap (λ (r : Book). maskChain (r .active ++ r .history) (bookBytes s)) (read-bytes s l)
@@ -147,6 +148,6 @@ mask-book s l =
     ∙ ap (maskChain (s .history)) (mask-chain 0 (omega arith) s l [] (s .active) refl)
     ∙ mask-chain 1 (omega arith) (withChain 0 (map (onContent maskPayload) (s .active)) s) (legal-masked s l) [] (s .history) refl
 
-pub mask-encode : (s : Station) → S.Legal s → maskRegister (encode s) ≡ encode (blankStation s)
+pub mask-encode : (s : Station) → LegalChains s → maskRegister (encode s) ≡ encode (blankStation s)
 unfolding encode bookOf
 mask-encode s l = mask-book (bookOf s) (book-legal s l) ∙ rw (mask-entries (s .active), mask-entries (s .history))

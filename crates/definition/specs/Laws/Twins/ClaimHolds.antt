@@ -1,4 +1,4 @@
--- Demand 3's claim holds.
+-- Demand 3's claim holds. For the theorem on whole lists in `station`.
 use Prim.Native.Nat.{ℕ, _+_, _*_}
 use mathlib.Core.Path.{_≡_, refl, sym, ap, ap₂, _∙_, subst}
 use mathlib.Core.List.{List, [], _∷_, map}
@@ -17,18 +17,20 @@ use Rattle.definition.specs.Book.{isLimit}
 use Rattle.definition.specs.Laws.Book.BookTests.{limits-to}
 use Rattle.definition.specs.Opening.{Opened, opened, openOf}
 use Rattle.definition.specs.Perform.{inLength, perform}
-use Rattle.definition.specs.Laws.Steps.LegalSteps.{lists}
-use Rattle.definition.specs.Laws.Text.Kind.{kindOf, listing, Kind, kind, refuses, call-kind, lists-op}
+use Rattle.definition.specs.Laws.Steps.Answers.{lists, kindOf, listing, lists-op}
 use Rattle.definition.specs.Contracts.LegalFields.{LegalCall}
-use Rattle.definition.specs.Laws.Text.Parse.{call-legal}
-use Rattle.definition.specs.Laws.Twins.KeptLegal.{LegalStation, Answered, perform-legal, fresh-legalStation, self-twin, left-legal, right-legal, twin-blank}
+use Rattle.definition.specs.Laws.Text.ParsedLegal.{Operation, called, refused, call-legal, call-operation}
+use Rattle.definition.specs.Contracts.LegalStation.{LegalStation}
+use Rattle.definition.specs.Laws.Steps.StationBook.{fresh-legalStation}
+use Rattle.definition.specs.Laws.Twins.KeptLegal.{Answered, perform-legal, self-twin, twin-blank}
 use Rattle.definition.specs.Sound.{encode, sound}
 use Rattle.definition.specs.Laws.Steps.SoundStation.{legal-reads, legal-sound}
+use Rattle.definition.specs.Laws.Steps.Replies.{on-sound}
 use Rattle.definition.specs.Laws.Steps.SideBySide.{Both, both, neither}
 use Rattle.definition.specs.Laws.Steps.Alike.{On, Told}
 use Rattle.definition.specs.Laws.Twins.TwinStations.{twin}
 use Rattle.definition.specs.Laws.Twins.TwinSteps.{size-twin, perform-twin}
-use Rattle.definition.specs.Laws.Twins.Mask.{mask-encode}
+use Rattle.definition.specs.Laws.Twins.MaskRegister.{mask-encode}
 use Rattle.definition.specs.Laws.Twins.MaskAnswer.{mask-answer}
 use Rattle.definition.specs.Mask.{maskRegister, maskAnswer, listsRecords}
 use Rattle.definition.specs.Lists.{Reply, replyOf, stepOf, run}
@@ -65,14 +67,14 @@ abbrev Good : ℕ → Outcome Answer → Type 0
 Good op (done x t) = LegalStation t × (lists x ≡ listsRecords op)
 Good op (stopped n) = Unit {0}
 
-good : (op n : ℕ) (s : Station) {c : CallValue} → Kind op c → LegalCall c → LegalStation s → Good op (perform c n s)
+good : (op n : ℕ) (s : Station) {c : CallValue} → Operation op c → LegalCall c → LegalStation s → Good op (perform c n s)
 unfolding perform inLength _>>=_
-good op n s {c} (kind k) h l = go (perform c n s) (perform-legal c n s h l)
+good op n s {c} (called k) h l = go (perform c n s) (perform-legal c n s h l)
   where
     go : (o : Outcome Answer) → Answered (listing c) s o → Good op o
     go (done x t) p = (p .0, p .1 ∙ ap (λ (i : ℕ). eqb (kindOf i) 8) k ∙ lists-op op)
     go (stopped m) p = tt
-good op n s refuses h l = tt
+good op n s refused h l = tt
 
 -- the registers of two stations that differ in texts and details only
 record Twin (b b′ : Bytes) : Type 0 where
@@ -93,8 +95,8 @@ record TwinReply (op : ℕ) (q q′ : Reply) : Type 0 where
 
 twin-register : (b b′ : Bytes) → Twin b b′ → maskRegister b ≡ maskRegister b′
 twin-register b b′ t =
-    ap maskRegister (t .is-one) ∙ mask-encode (t .one) (t .on .legal) ∙ ap encode (twin-blank (t .on))
-    ∙ sym (ap maskRegister (t .is-two) ∙ mask-encode (t .two) (t .on .legal′))
+    ap maskRegister (t .is-one) ∙ mask-encode (t .one) (t .on .legal .chains) ∙ ap encode (twin-blank (t .on))
+    ∙ sym (ap maskRegister (t .is-two) ∙ mask-encode (t .two) (t .on .legal′ .chains))
 
 twin-reply : {i n op : ℕ} (b b′ : Bytes) → Twin b b′ → {o o′ : Outcome Answer} → Good op o → Good op o′ → Both (Told twin i n) o o′ → TwinReply op (replyOf b o) (replyOf b′ o′)
 twin-reply {op = op} b b′ t g g′ (both {a = x} {b = x′} q) = record {
@@ -110,7 +112,9 @@ twin-reply b b′ t g g′ (neither k) = record { number = refl; sized = refl; s
 -- the reply from a legal station's bytes
 step-legal : (b : Bytes) (s : Station) (c : Bytes) (n : ℕ) → LegalStation s → b ≡ encode s → stepOf b c n ≡ replyOf b (perform (parseCall c) n s)
 unfolding stepOf
-step-legal b s c n l e = rw (e, holds (sound (encode s)) (legal-sound s l), legal-reads s l)
+step-legal b s c n l e =
+    let h : sound b ≡ true = rw e (holds (sound (encode s)) (legal-sound s l)) in
+    rw (on-sound, e, legal-reads s l)
 
 same-op : (c c′ : Bytes) → TwinCall c c′ → getD c 0 0 ≡ getD c′ 0 0
 same-op c c′ (equal p) = ap (λ (x : Bytes). getD x 0 0) p
@@ -141,14 +145,14 @@ module _ (m m′ : Made) (q q′ : Reply) (g : Gives q (m .former) (m .number) (
 -- ---- twin lists, call by call
 
 good-call : (c : Bytes) (n : ℕ) (s : Station) → Octets c → LegalStation s → Good (getD c 0 0) (perform (parseCall c) n s)
-good-call c n s o l = good (getD c 0 0) n s (call-kind c) (call-legal c o) l
+good-call c n s o l = good (getD c 0 0) n s (call-operation c o) (call-legal c o) l
 
 twin-step : (b b′ c c′ : Bytes) (n n′ : ℕ) → Twin b b′ → Octets c → Octets c′ → TwinCall c c′ → n ≡ n′ → TwinReply (getD c 0 0) (stepOf b c n) (stepOf b′ c′ n′)
 twin-step b b′ c c′ n n′ t o o′ w e =
     let s = t .one in
     let s′ = t .two in
-    rw (← e, step-legal b s c n (left-legal (t .on)) (t .is-one), step-legal b′ s′ c′ n (right-legal (t .on)) (t .is-two))
-    (twin-reply b b′ t (good-call c n s o (left-legal (t .on))) (rw (same-op c c′ w) (good-call c′ n s′ o′ (right-legal (t .on))))
+    rw (← e, step-legal b s c n (t .on .legal) (t .is-one), step-legal b′ s′ c′ n (t .on .legal′) (t .is-two))
+    (twin-reply b b′ t (good-call c n s o (t .on .legal)) (rw (same-op c c′ w) (good-call c′ n s′ o′ (t .on .legal′)))
     (perform-twin n (twins-read c c′ w) (call-legal c o) (call-legal c′ o′) .from s s′ (t .on)))
 
 twins : (b b′ : Bytes) (l l′ : List Made) → Twin b b′ → AllOctets l → AllOctets l′ → Trace b l → Trace b′ l′ → TwinLists (map asked l) (map asked l′) → AtEach Alike l l′
