@@ -2,4 +2,4 @@ pub mod Places
 pub mod Trim
 pub mod Dotted
 pub mod Ways
-pub mod Lengths
+pub mod Xor

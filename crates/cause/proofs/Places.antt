@@ -1,73 +1,128 @@
--- The tables of the names, and the search for a name.
-use mathlib.Core.Path.{_≡_, refl, sym, _∙_}
-use mathlib.Core.Bool.{Bool, true, false, _||_}
+-- The search for a name among those of its length, and the names by their place.
+use mathlib.Core.Path.{_≡_, refl, sym, ap, _∙_, subst}
+use mathlib.Core.Bool.{Bool, true, false, cond, _&&_, _||_}
 use mathlib.Core.List.{List, [], _∷_}
-use Prim.Native.Nat.{ℕ, zero, suc, _+_, _^_, _≤_, _<_}
-use native.Mathlib.Numerals.{add-one}
+use Prim.Native.Nat.{ℕ, zero, suc, _+_, _≤_, _<_}
 use native.Mathlib.Omega.{arith}
-use lib.Dec.{leb, leb→le, eqb, eqb→eq}
-use lib.ListN.{length, getD, take, drop, drop-of-length-le}
+use borrow.Author.Tests.{eq-eqb, ne-eqb}
+use lib.Dec.{T, eqb}
+use lib.ListN.{length, getD, drop, length-drop}
 use lib.Seq.{drop-cons}
-use Rattle.octets.specs.Bytes.{Bytes, ascii, same}
-use Rattle.octets.specs.RangeLaws.{on-range}
-use Rattle.octets.specs.SameLaws.{same→eq, same-refl, same-lengths}
+use Rattle.octets.specs.Bytes.{Bytes, same, splice}
+use Rattle.octets.specs.Put.{Put}
+use Rattle.octets.specs.BoolLaws.{both-left, both-right, true-holds}
+use Rattle.octets.specs.SameLaws.{same→eq, same-refl}
 use Rattle.definition.specs.Cause.{names, oneOf}
-use Rattle.cause.specs.Meaning.{startOf}
+use Rattle.cause.specs.Meaning.{named, placeOf, orElse}
+use Rattle.cause.specs.declared.names.Named.{Named}
+use Rattle.cause.specs.declared.names.Named.the-variants.{At, Nothing}
 
--- ---- the text and its parts
+-- ---- the texts of one length
 
-abbrev pub all : Bytes
-all = ascii "config-apply-failedconfig-drift-detectedcertificate-expiringcertificate-expiredidentity-unavailableauthorization-policy-invalidsession-store-unavailablelease-lostbackend-timeoutnrf-unreachablesbi-overloadpeer-unreachablepacket-drop-thresholddataplane-preflight-failedstorage-corruptionaudit-chain-invalidkey-unavailableli-delivery-failedcharging-export-failedprivacy-policy-violationsecurity-break-glass"
+-- the answer r, or else the place of s among those of the texts, numbered from k on, that have the length n
+abbrev sized : ℕ → Bytes → Named → ℕ → List Bytes → Named
+sized n s r k [] = r
+sized n s r k (t ∷ ts) = sized n s (cond (eqb n (length t)) (orElse r (placeOf s t k)) r) (suc k) ts
 
-abbrev starts : List ℕ
-starts =
-    0 ∷ 19 ∷ 40 ∷ 60 ∷ 79 ∷ 99 ∷ 127 ∷ 152 ∷ 162 ∷ 177 ∷ 192 ∷ 204 ∷ 220 ∷ 241 ∷ 267 ∷ 285 ∷ 304 ∷ 319 ∷ 337 ∷ 359 ∷ 383 ∷ []
+cond-same : (b : Bool) (r : Named) → cond b r r ≡ r
+cond-same true r = refl
+cond-same false r = refl
 
-abbrev lengths : List ℕ
-lengths = 19 ∷ 21 ∷ 20 ∷ 19 ∷ 20 ∷ 28 ∷ 25 ∷ 10 ∷ 15 ∷ 15 ∷ 12 ∷ 16 ∷ 21 ∷ 26 ∷ 18 ∷ 19 ∷ 15 ∷ 18 ∷ 22 ∷ 24 ∷ 20 ∷ []
+-- the lengths tell nothing more
+same-sized : (s t : Bytes) (k : ℕ) (r : Named) → cond (eqb (length s) (length t)) (orElse r (placeOf s t k)) r ≡ orElse r (placeOf s t k)
+same-sized s t k (At j) = cond-same (eqb (length s) (length t)) (At j)
+same-sized s t k Nothing = go (same t s) refl
+  where
+    go : (y : Bool) → same t s ≡ y → cond (eqb (length s) (length t)) (cond y (At k) Nothing) Nothing ≡ cond y (At k) Nothing
+    go true e = rw (eq-eqb (length s) (length t) (ap length (sym (same→eq t s (true-holds _ e)))))
+    go false e = cond-same (eqb (length s) (length t)) Nothing
 
-abbrev nameAt : ℕ → Bytes
-nameAt k = getD names k []
+-- what is known where the texts up to those left have been passed
+abbrev Passed : List Bytes → Bytes → List Bytes → Named → Type 0
+Passed all s left (At k) = (k < length all) × (getD all k [] ≡ s)
+Passed all s left Nothing = oneOf all s ≡ oneOf left s
 
-abbrev cut : ℕ → Bytes
-cut k = take (length (nameAt k)) (drop (startOf k) all)
-
--- the tables hold where the name at k starts and its length, and that cuts the name out of the text
-module _ (k : ℕ) (h : k < 21) where
-  pub start-is : getD starts k 0 ≡ startOf k
-  start-is = eqb→eq _ _ (on-range (λ (m : ℕ). eqb (getD starts m 0) (startOf m)) 21 0 tt k (omega arith) (omega arith))
-
-  pub length-is : getD lengths k 0 ≡ length (nameAt k)
-  length-is = eqb→eq _ _ (on-range (λ (m : ℕ). eqb (getD lengths m 0) (length (nameAt m))) 21 0 tt k (omega arith) (omega arith))
-
-  pub name-ends : startOf k + length (nameAt k) ≤ 403
-  name-ends = leb→le _ _ (on-range (λ (m : ℕ). leb (startOf m + length (nameAt m)) 403) 21 0 tt k (omega arith) (omega arith))
-
-  pub name-fits : length (nameAt k) ≤ 28
-  name-fits = leb→le _ _ (on-range (λ (m : ℕ). leb (length (nameAt m)) 28) 21 0 tt k (omega arith) (omega arith))
-
-  pub start-fits : getD starts k 0 < 2 ^ 64
-  start-fits = omega (arith, start-is, name-ends)
-
-  pub length-fits : getD lengths k 0 < 2 ^ 64
-  length-fits = omega (arith, length-is, name-fits)
-
-  pub other-length : (n : ℕ) (s : Bytes) → n ≡ length (nameAt k) → (length s ≡ n → ⊥) → false ≡ same (nameAt k) s
-  other-length n s e d = sym (same-lengths (nameAt k) s (λ q. d (sym q ∙ sym e)))
-
-  pub cut-name : cut k ≡ nameAt k
-  unfolding same
-  cut-name = same→eq _ _ (on-range (λ (m : ℕ). same (cut m) (nameAt m)) 21 0 tt k (omega arith) (omega arith))
-
--- ---- the search
-
-pub name-miss : (s : Bytes) (k : ℕ) → k < 21 → same (getD names k []) s ≡ false → oneOf (drop k names) s ≡ oneOf (drop (k + 1) names) s
+passed : (all : List Bytes) (s t : Bytes) (left : List Bytes) (k : ℕ) → k < length all → getD all k [] ≡ t
+    → (r : Named) → Passed all s (t ∷ left) r → Passed all s left (orElse r (placeOf s t k))
 unfolding oneOf
-name-miss s k h e = rw (add-one, drop-cons names k [] h, e)
+passed all s t left k h g (At j) p = p
+passed all s t left k h g Nothing p = go (same t s) refl
+  where
+    go : (y : Bool) → same t s ≡ y → Passed all s left (cond y (At k) Nothing)
+    go true e = (h, g ∙ same→eq t s (true-holds _ e))
+    go false e = p ∙ rw e
 
-pub name-end : (s : Bytes) (k : ℕ) → 21 ≤ k → oneOf (drop k names) s ≡ false
+all-passed : (all : List Bytes) (s : Bytes) (k : ℕ) (left : List Bytes) → drop k all ≡ left
+    → (r : Named) → Passed all s left r → Passed all s [] (sized (length s) s r k left)
+all-passed all s k [] e r p = p
+all-passed all s k (t ∷ left) e r p =
+    let h : k < length all = omega (arith, ap length e, length-drop k all) in
+    let c = drop-cons all k [] h in
+    let g : getD all k [] ≡ t = cc in
+    let d : drop (suc k) all ≡ left = cc in
+    all-passed all s (suc k) left d (cond (eqb (length s) (length t)) (orElse r (placeOf s t k)) r)
+    (rw same-sized (passed all s t left k h g r p))
+
+none-left : (all : List Bytes) (s : Bytes) (r : Named) → Passed all s [] r → named all s r
 unfolding oneOf
-name-end s k h = rw (drop-of-length-le names h)
+none-left all s (At k) p = p
+none-left all s Nothing p = p
+
+among-all : (all : List Bytes) (s : Bytes) {n : ℕ} {r : Named} → length s ≡ n → r ≡ sized n s Nothing 0 all → named all s r
+among-all all s {n} {r} h e =
+    let f : r ≡ sized (length s) s Nothing 0 all = rw h e in
+    subst (named all s) (sym f) (none-left all s (sized (length s) s Nothing 0 all) (all-passed all s 0 all refl Nothing refl))
+
+-- what is found among the names of the length of s
+pub by-length : (s : Bytes) {n : ℕ} {r : Named} → length s ≡ n → r ≡ sized n s Nothing 0 names → named names s r
+by-length s h e = among-all names s h e
+
+-- ---- the last arm of a match
+
+-- n is none of ls
+abbrev NoneOf : ℕ → List ℕ → Type 0
+NoneOf n [] = Unit
+NoneOf n (l ∷ ls) = NoneOf n ls × (n ≡ l → ⊥)
+
+abbrev down : ℕ → List ℕ
+down zero = []
+down (suc n) = n ∷ down n
+
+at-least : (n k : ℕ) → NoneOf k (down n) → n ≤ k
+at-least zero k h = omega arith
+at-least (suc n) k h = omega (arith, at-least n k (h .0), h .1)
+
+-- the arms before it took all places but the last
+pub last-place : (n k : ℕ) → k < suc n → NoneOf k (down n) → k ≡ n
+last-place n k l h = omega (arith, at-least n k h)
+
+-- ---- no name has the length
+
+abbrev among : ℕ → List ℕ → Bool
+among n [] = false
+among n (l ∷ ls) = eqb n l || among n ls
+
+not-among : (n : ℕ) (ls : List ℕ) → NoneOf n ls → T (among n ls) → ⊥
+not-among n [] h t = t
+not-among n (l ∷ ls) h t = not-among n ls (h .0) (rw (ne-eqb n l (h .1)) at t)
+
+-- the texts have their lengths among ls
+abbrev lengthsIn : List ℕ → List Bytes → Bool
+lengthsIn ls [] = true
+lengthsIn ls (t ∷ ts) = among (length t) ls && lengthsIn ls ts
+
+none-sized : (s : Bytes) (n : ℕ) (ls : List ℕ) → NoneOf n ls → (k : ℕ) (ts : List Bytes) → T (lengthsIn ls ts) → sized n s Nothing k ts ≡ Nothing
+none-sized s n ls h k [] i = refl
+none-sized s n ls h k (t ∷ ts) i =
+    let l : ℕ = length t in
+    rw (ne-eqb n l (λ e. not-among n ls h (rw e (both-left (among l ls) (lengthsIn ls ts) i))))
+    (none-sized s n ls h (suc k) ts (both-right (among l ls) (lengthsIn ls ts) i))
+
+-- a string whose length is none of ls, where every name has one of them
+pub elsewhere : (s : Bytes) (ls : List ℕ) → T (lengthsIn ls names) → NoneOf (length s) ls → oneOf names s ≡ false
+elsewhere s ls t h = among-all names s refl (sym (none-sized s (length s) ls h 0 names t))
+
+-- ---- a string at a place
 
 one-at : (ns : List Bytes) (k : ℕ) → k < length ns → oneOf ns (getD ns k []) ≡ true
 unfolding oneOf
@@ -82,3 +137,8 @@ one-at (n ∷ ns) (suc k) h = rw (one-at ns k (omega arith)) (or-true (same n (g
 -- a string that stands at a place is one of the names
 pub name-one : (s : Bytes) (k : ℕ) → k < 21 → getD names k [] ≡ s → oneOf names s ≡ true
 name-one s k h e = rw (sym e) (one-at names k h)
+
+-- the name at n was put, and k is n
+pub at-place : {k n at r : ℕ} {b c : Bytes} → k ≡ n → Put b at (getD names n []) r c
+    → (r ≡ at + length (getD names k [])) × (c ≡ splice b at (getD names k []))
+at-place e p = rw e (p .next, p .bytes)

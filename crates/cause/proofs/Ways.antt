@@ -17,8 +17,8 @@ use Rattle.cause.specs.declared.Cause.the-variants.{Name, Other, No}
 use Rattle.cause.proofs.Places.{name-one}
 
 -- what is known of the place among the names, for the variant that a match found
-pub found : (s : Bytes) {r q : Named} → named s r → r ≡ q → named s q
-found s h e = subst (named s) e h
+pub found : (s : Bytes) {r q : Named} → named names s r → r ≡ q → named names s q
+found s h e = subst (named names s) e h
 
 pub name-yes : (s : Bytes) (k : ℕ) → k < 21 → getD names k [] ≡ s → causeValue s (Name k) ≡ causeOf s
 unfolding causeOf causeValue

@@ -1,29 +1,30 @@
 -- What the answers of the code mean.
 use Prim.Native.Nat.{ℕ, _+_, _≤_, _<_}
 use mathlib.Core.Path.{_≡_}
-use mathlib.Core.Bool.{false}
-use mathlib.Core.List.{List, [], _∷_, _++_}
+use mathlib.Core.Bool.{false, cond}
+use mathlib.Core.List.{List, [], _++_}
 use mathlib.Core.Option.{Option, none, some}
 use lib.ListN.{length, take, drop, getD}
-use Rattle.octets.specs.Bytes.{Bytes}
+use Rattle.octets.specs.Bytes.{Bytes, same}
 use Rattle.definition.specs.Cause.{names, oneOf, other}
 use Rattle.cause.specs.declared.names.Named.{Named}
 use Rattle.cause.specs.declared.names.Named.the-variants.{At, Nothing}
 use Rattle.cause.specs.declared.Cause.{Cause}
 use Rattle.cause.specs.declared.Cause.the-variants.{Name, Other, No}
 
--- s stands at a place among the names, or nowhere
-abbrev pub named : Bytes → Named → Type 0
-named s (At k) = (k < 21) × (getD names k [] ≡ s)
-named s Nothing = oneOf names s ≡ false
+-- s stands at a place among the texts, or nowhere
+abbrev pub named : List Bytes → Bytes → Named → Type 0
+named ts s (At k) = (k < length ts) × (getD ts k [] ≡ s)
+named ts s Nothing = oneOf ts s ≡ false
 
-abbrev pub total : List Bytes → ℕ
-total [] = 0
-total (n ∷ ns) = length n + total ns
+-- the place k where s is the text t, or none
+abbrev pub placeOf : Bytes → Bytes → ℕ → Named
+placeOf s t k = cond (same t s) (At k) Nothing
 
--- where the name at k starts in the text of all names
-abbrev pub startOf : ℕ → ℕ
-startOf k = total (take k names)
+-- the place that was found, or else the other answer
+abbrev pub orElse : Named → Named → Named
+orElse (At k) other = At k
+orElse Nothing other = other
 
 -- the stored form that the answer on s stands for
 unfoldable pub causeValue : Bytes → Cause → Option Bytes

@@ -1,11 +1,15 @@
-// The 21 names of causes, by their place.
+// The 21 names of causes. Each stands here once, as a constant; its place is that in the definition's list.
+//
+// A string is sought by its length: names of one length are three at most. Each is a constant of its own, since Rattle copies a constant to
+// the stack where it is used: LLVM makes of a short one a few comparisons with numbers, of a table with all names a copy at each use.
 ghost use mathlib.Core.Path.{_≡_};
 ghost use mathlib.Core.List.{[]};
 ghost use Prim.Native.Nat.{_+_, _≤_, _<_};
-ghost use lib.ListN.{getD, length, take, drop};
+ghost use lib.ListN.{getD, length};
 ghost use Rattle.octets.specs.Bytes.{same, splice};
-ghost use Rattle.definition.specs.Cause.{names, oneOf};
-ghost use Rattle.cause.specs.Meaning.{named, startOf};
+ghost use Rattle.octets.specs.Put.{Put};
+ghost use Rattle.definition.specs.Cause.{names};
+ghost use Rattle.cause.specs.Meaning.{named, placeOf, orElse};
 
 // Which of the names a string is.
 pub(crate) enum Named {
@@ -13,116 +17,47 @@ pub(crate) enum Named {
     Nothing,
 }
 
-// The names, one after the other.
-const NAMES: [u8; 403] =
-    *b"config-apply-failedconfig-drift-detectedcertificate-expiringcertificate-expiredidentity-unavailableauthorization-policy-invalidsession-store-unavailablelease-lostbackend-timeoutnrf-unreachablesbi-overloadpeer-unreachablepacket-drop-thresholddataplane-preflight-failedstorage-corruptionaudit-chain-invalidkey-unavailableli-delivery-failedcharging-export-failedprivacy-policy-violationsecurity-break-glass";
+const CONFIG_APPLY_FAILED: [u8; 19] = *b"config-apply-failed";
 
-// Where each starts, and its length. An array is copied at each use: these are of the smallest type.
-const STARTS: [u16; 21] = [
-    0,
-    19,
-    40,
-    60,
-    79,
-    99,
-    127,
-    152,
-    162,
-    177,
-    192,
-    204,
-    220,
-    241,
-    267,
-    285,
-    304,
-    319,
-    337,
-    359,
-    383,
-];
+const CONFIG_DRIFT_DETECTED: [u8; 21] = *b"config-drift-detected";
 
-const LENGTHS: [u8; 21] = [
-    19,
-    21,
-    20,
-    19,
-    20,
-    28,
-    25,
-    10,
-    15,
-    15,
-    12,
-    16,
-    21,
-    26,
-    18,
-    19,
-    15,
-    18,
-    22,
-    24,
-    20,
-];
+const CERTIFICATE_EXPIRING: [u8; 20] = *b"certificate-expiring";
 
-// Where the name at k starts.
-fn start_of(k: usize) -> usize
-    requires { ⌜ k < 21 ⌝ }
-    ensures { λ r. ⌜ r ≡ startOf k ⌝ }
-{
-    STARTS[k] as usize
-}
+const CERTIFICATE_EXPIRED: [u8; 19] = *b"certificate-expired";
 
-// The length of the name at k.
-fn length_of(k: usize) -> usize
-    requires { ⌜ k < 21 ⌝ }
-    ensures { λ r. ⌜ r ≡ length (getD names k []) ⌝ }
-{
-    LENGTHS[k] as usize
-}
+const IDENTITY_UNAVAILABLE: [u8; 20] = *b"identity-unavailable";
 
-// Whether s is the name at k: the lengths first, since most differ there.
-fn is_name(s: &[u8], k: usize) -> bool
-    requires { ⌜ k < 21 ⌝ }
-    ensures { λ r. ⌜ r ≡ same (getD names k []) (now (s .entry)) ⌝ }
-{
-    if s.len() != length_of(k) {
-        return false;
-    }
-    same_name(s, k)
-}
+const AUTHORIZATION_POLICY_INVALID: [u8; 28] = *b"authorization-policy-invalid";
 
-// The same, for a string of that length.
-fn same_name(s: &[u8], k: usize) -> bool
-    requires { ⌜ k < 21 ⌝ }
-    ensures { λ r. ⌜ r ≡ same (getD names k []) (now (s .entry)) ⌝ }
-{
-    part_is(&NAMES, start_of(k), length_of(k), s)
-}
+const SESSION_STORE_UNAVAILABLE: [u8; 25] = *b"session-store-unavailable";
 
-// Whether the n bytes of all from a on are those of s.
-fn part_is(all: &[u8], a: usize, n: usize, s: &[u8]) -> bool
-    requires { ⌜ a + n ≤ length (now all) ⌝ }
-    ensures { λ r. ⌜ r ≡ same (take n (drop a (now (all .entry)))) (now (s .entry)) ⌝ }
-{
-    let e = a + n;
-    octets::equal(&all[a..e], s)
-}
+const LEASE_LOST: [u8; 10] = *b"lease-lost";
 
-// The place of s among the names.
-pub(crate) fn name(s: &[u8]) -> Named
-    ensures { λ r. ⌜ named (now (s .entry)) r ⌝ }
-{
-    let mut k = 0;
-    while k < 21 {
-        if is_name(s, k) {
-            return Named::At(k);
-        }
-        k += 1;
-    }
-    Named::Nothing
-}
+const BACKEND_TIMEOUT: [u8; 15] = *b"backend-timeout";
+
+const NRF_UNREACHABLE: [u8; 15] = *b"nrf-unreachable";
+
+const SBI_OVERLOAD: [u8; 12] = *b"sbi-overload";
+
+const PEER_UNREACHABLE: [u8; 16] = *b"peer-unreachable";
+
+const PACKET_DROP_THRESHOLD: [u8; 21] = *b"packet-drop-threshold";
+
+const DATAPLANE_PREFLIGHT_FAILED: [u8; 26] = *b"dataplane-preflight-failed";
+
+const STORAGE_CORRUPTION: [u8; 18] = *b"storage-corruption";
+
+const AUDIT_CHAIN_INVALID: [u8; 19] = *b"audit-chain-invalid";
+
+const KEY_UNAVAILABLE: [u8; 15] = *b"key-unavailable";
+
+const LI_DELIVERY_FAILED: [u8; 18] = *b"li-delivery-failed";
+
+const CHARGING_EXPORT_FAILED: [u8; 22] = *b"charging-export-failed";
+
+const PRIVACY_POLICY_VIOLATION: [u8; 24] = *b"privacy-policy-violation";
+
+const SECURITY_BREAK_GLASS: [u8; 20] = *b"security-break-glass";
 
 // Whether s is the text given. All bytes are compared in one loop with one way out: LLVM takes many at a time.
 fn is_text(s: &[u8], text: &[u8]) -> bool
@@ -140,32 +75,54 @@ fn is_text(s: &[u8], text: &[u8]) -> bool
     x == 0
 }
 
-// Whether s is one of the names, which is asked of every record at each call. Those of one length are few, and each is a short literal: none
-// of the tables above is copied.
-pub(crate) fn is_one(s: &[u8]) -> bool
-    ensures { λ r. ⌜ r ≡ oneOf names (now (s .entry)) ⌝ }
+// The place k where s is the text given, or none.
+fn place(s: &[u8], text: &[u8], k: usize) -> Named
+    ensures { λ r. ⌜ r ≡ placeOf (now (s .entry)) (now (text .entry)) k ⌝ }
+{
+    if is_text(s, text) {
+        Named::At(k)
+    } else {
+        Named::Nothing
+    }
+}
+
+impl Named {
+    // This place, or else k where s is the text given.
+    fn or(self, s: &[u8], text: &[u8], k: usize) -> Named
+        ensures { λ r. ⌜ r ≡ orElse self (placeOf (now (s .entry)) (now (text .entry)) k) ⌝ }
+    {
+        match self {
+            Named::At(i) => Named::At(i),
+            Named::Nothing => place(s, text, k),
+        }
+    }
+}
+
+// The place of s among the names. Asked of every record at each call.
+pub(crate) fn name(s: &[u8]) -> Named
+    ensures { λ r. ⌜ named names (now (s .entry)) r ⌝ }
 {
     match s.len() {
-        10 => is_text(s, b"lease-lost"),
-        12 => is_text(s, b"sbi-overload"),
-        15 => is_text(s, b"backend-timeout")
-            | is_text(s, b"nrf-unreachable")
-            | is_text(s, b"key-unavailable"),
-        16 => is_text(s, b"peer-unreachable"),
-        18 => is_text(s, b"storage-corruption") | is_text(s, b"li-delivery-failed"),
-        19 => is_text(s, b"config-apply-failed")
-            | is_text(s, b"certificate-expired")
-            | is_text(s, b"audit-chain-invalid"),
-        20 => is_text(s, b"certificate-expiring")
-            | is_text(s, b"identity-unavailable")
-            | is_text(s, b"security-break-glass"),
-        21 => is_text(s, b"config-drift-detected") | is_text(s, b"packet-drop-threshold"),
-        22 => is_text(s, b"charging-export-failed"),
-        24 => is_text(s, b"privacy-policy-violation"),
-        25 => is_text(s, b"session-store-unavailable"),
-        26 => is_text(s, b"dataplane-preflight-failed"),
-        28 => is_text(s, b"authorization-policy-invalid"),
-        _ => false,
+        10 => place(s, &LEASE_LOST, 7),
+        12 => place(s, &SBI_OVERLOAD, 10),
+        15 => place(s, &BACKEND_TIMEOUT, 8)
+            .or(s, &NRF_UNREACHABLE, 9)
+            .or(s, &KEY_UNAVAILABLE, 16),
+        16 => place(s, &PEER_UNREACHABLE, 11),
+        18 => place(s, &STORAGE_CORRUPTION, 14).or(s, &LI_DELIVERY_FAILED, 17),
+        19 => place(s, &CONFIG_APPLY_FAILED, 0)
+            .or(s, &CERTIFICATE_EXPIRED, 3)
+            .or(s, &AUDIT_CHAIN_INVALID, 15),
+        20 => place(s, &CERTIFICATE_EXPIRING, 2)
+            .or(s, &IDENTITY_UNAVAILABLE, 4)
+            .or(s, &SECURITY_BREAK_GLASS, 20),
+        21 => place(s, &CONFIG_DRIFT_DETECTED, 1).or(s, &PACKET_DROP_THRESHOLD, 12),
+        22 => place(s, &CHARGING_EXPORT_FAILED, 18),
+        24 => place(s, &PRIVACY_POLICY_VIOLATION, 19),
+        25 => place(s, &SESSION_STORE_UNAVAILABLE, 6),
+        26 => place(s, &DATAPLANE_PREFLIGHT_FAILED, 13),
+        28 => place(s, &AUTHORIZATION_POLICY_INVALID, 5),
+        _ => Named::Nothing,
     }
 }
 
@@ -175,16 +132,36 @@ pub fn put_name(buf: &mut [u8], at: usize, k: usize) -> usize
     ensures { λ r.
         ⌜ (r ≡ at + length (getD names k [])) × (now (buf .exit) ≡ splice (now (buf .entry)) at (getD names k [])) ⌝ }
 {
-    put_part(buf, at, &NAMES, start_of(k), length_of(k))
+    match k {
+        0 => put_text(buf, at, &CONFIG_APPLY_FAILED),
+        1 => put_text(buf, at, &CONFIG_DRIFT_DETECTED),
+        2 => put_text(buf, at, &CERTIFICATE_EXPIRING),
+        3 => put_text(buf, at, &CERTIFICATE_EXPIRED),
+        4 => put_text(buf, at, &IDENTITY_UNAVAILABLE),
+        5 => put_text(buf, at, &AUTHORIZATION_POLICY_INVALID),
+        6 => put_text(buf, at, &SESSION_STORE_UNAVAILABLE),
+        7 => put_text(buf, at, &LEASE_LOST),
+        8 => put_text(buf, at, &BACKEND_TIMEOUT),
+        9 => put_text(buf, at, &NRF_UNREACHABLE),
+        10 => put_text(buf, at, &SBI_OVERLOAD),
+        11 => put_text(buf, at, &PEER_UNREACHABLE),
+        12 => put_text(buf, at, &PACKET_DROP_THRESHOLD),
+        13 => put_text(buf, at, &DATAPLANE_PREFLIGHT_FAILED),
+        14 => put_text(buf, at, &STORAGE_CORRUPTION),
+        15 => put_text(buf, at, &AUDIT_CHAIN_INVALID),
+        16 => put_text(buf, at, &KEY_UNAVAILABLE),
+        17 => put_text(buf, at, &LI_DELIVERY_FAILED),
+        18 => put_text(buf, at, &CHARGING_EXPORT_FAILED),
+        19 => put_text(buf, at, &PRIVACY_POLICY_VIOLATION),
+        _ => put_text(buf, at, &SECURITY_BREAK_GLASS),
+    }
 }
 
-// Writes n bytes of all from a on into buf from at on, and answers where they end.
-fn put_part(buf: &mut [u8], at: usize, all: &[u8], a: usize, n: usize) -> usize
-    requires { ⌜ (a + n ≤ length (now all)) × (at + n ≤ length (now buf)) ⌝ }
-    ensures { λ r.
-        ⌜ (r ≡ at + n) × (now (buf .exit) ≡ splice (now (buf .entry)) at (take n (drop a (now (all .entry))))) ⌝ }
+// The same, for a text.
+fn put_text(buf: &mut [u8], at: usize, text: &[u8]) -> usize
+    requires { ⌜ at + length (now text) ≤ length (now buf) ⌝ }
+    ensures { λ r. ⌜ Put (now (buf .entry)) at (now (text .entry)) r (now (buf .exit)) ⌝ }
 {
-    let e = a + n;
-    octets::put_bytes(buf, at, &all[a..e]);
-    at + n
+    octets::put_bytes(buf, at, text);
+    at + text.len()
 }

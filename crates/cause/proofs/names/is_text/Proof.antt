@@ -8,7 +8,7 @@ use lib.ListN.{length, drop}
 use Rattle.octets.specs.Bytes.{same}
 use Rattle.octets.specs.BoolLaws.{and-true}
 use Rattle.octets.specs.SameLaws.{same-lengths, same-end}
-use Rattle.cause.proofs.Lengths.{xor-step}
+use Rattle.cause.proofs.Xor.{xor-step}
 use borrow.Author.Needs.{needs}
 use Rattle.cause.proofs.names.is_text.Statement.{statement}
 use Rattle.cause.proofs.names.is_text.Tie as tie
