@@ -55,7 +55,10 @@ pub record RequestWithin (call : Bytes) (r : Request) : Type 0 where
   pub scope : scopeWithin call (r .scope)
   pub correlation : optWithin call shortLimit (r .correlation)
 
+abbrev pub verdictWithin : Bytes → Verdict → Type 0
+verdictWithin call v = within call regionLimit (v .denial)
+
 pub record PolicyWithin (call : Bytes) (p : Policy) : Type 0 where
   pub actor : ActorWithin call (p .actor)
   pub request : RequestWithin call (p .request)
-  pub denial : within call regionLimit (p .verdict .denial)
+  pub verdict : verdictWithin call (p .verdict)

@@ -5,7 +5,7 @@ use mathlib.Core.Path.{_≡_, refl, sym, ap, _∙_}
 use mathlib.Core.Bool.{Bool, true, false, cond}
 use Rattle.octets.specs.Bytes.{Bytes}
 use Rattle.definition.specs.Reader.{Out, got, bad, Reader, next, _>>=_, give, refuse, into}
-use Rattle.fields.specs.Cursor.{outAt, from, Reads, checked}
+use Rattle.fields.specs.Cursor.{outAt, from, Reads, refusedUnless}
 use Rattle.fields.specs.declared.Cursor.{Cursor}
 use Rattle.fields.specs.declared.Cursor.the-variants.{At, Fault}
 
@@ -36,8 +36,8 @@ unfolding into
 becomes kind a = step _ a done
 
 -- a test between two fields
-pub tested : {A : Type 0} {call : Bytes} {q t : Cursor} {r : Reader A} {v : A} (ok : Bool) (n : ℕ) → Reads call (checked q ok n) r v t → Reads call q (cond ok r (refuse n)) v t
-unfolding checked
+pub tested : {A : Type 0} {call : Bytes} {q t : Cursor} {r : Reader A} {v : A} (ok : Bool) (n : ℕ) → Reads call (refusedUnless q ok n) r v t → Reads call q (cond ok r (refuse n)) v t
+unfolding refusedUnless
 tested true n a = a
 tested {q = At i} false n a = record { out = a .out }
 tested {q = Fault k} false n a = record { out = a .out }
