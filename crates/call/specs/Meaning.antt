@@ -1,11 +1,12 @@
 -- What the parser's answer means: document 01's number and values for each of its cases.
+use mathlib.Core.Path.{_≡_}
 use Rattle.octets.specs.Bytes.{Bytes}
 use Rattle.definition.specs.Limits.{shortLimit}
 use Rattle.definition.specs.Reader.{Reader}
 use Rattle.definition.specs.Value.{CallValue}
 use Rattle.model.specs.Meaning.{optPart, optWithin, actionOf}
 use Rattle.fields.specs.declared.Cursor.{Cursor}
-use Rattle.fields.specs.Cursor.{Reads}
+use Rattle.fields.specs.Cursor.{Says}
 use Rattle.action_fields.specs.Meaning.{plainValue, policyValue, plainWithin, PolicyWithin}
 use Rattle.raise_fields.specs.Meaning.{raiseValue, clearValue, RaiseWithin, ClearWithin}
 use Rattle.call.specs.declared.Parsed.{Parsed}
@@ -43,6 +44,12 @@ parsedWithin call P.Summary = Unit
 parsedWithin call (P.TakeAudit n) = Unit
 parsedWithin call (P.Refused n) = Unit
 
--- ---- what is read on from a place: the value that the answer means, every part of it within its limit
-abbrev pub Says : Bytes → Cursor → Reader CallValue → CallRead → Type 0
-Says call at fields r = Reads call at fields (meaning call (r .parsed)) (r .next) × parsedWithin call (r .parsed)
+-- ---- the words of contracts
+
+-- what is read on from a place is the call that the answer means
+abbrev pub SaysCall : Bytes → Cursor → Reader CallValue → CallRead → Type 0
+SaysCall call at fields answer = Says call at fields meaning parsedWithin (answer .parsed) (answer .next)
+
+-- an answer means a call, or a refusal
+abbrev pub Means : Bytes → Parsed → CallValue → Type 0
+Means call answer v = (meaning call answer ≡ v) × parsedWithin call answer

@@ -11,10 +11,10 @@ use model::OptSpan;
 use model::Record;
 use model::Span;
 ghost use mathlib.Core.Path.{_≡_};
-ghost use Rattle.definition.specs.Parse.{raiseHead, raiseBody, raiseFields, clearFields};
-ghost use Rattle.model.specs.Meaning.{keyValue, KeyWithin};
+ghost use Rattle.definition.specs.Parse.{raiseHead, raiseFields, clearFields};
+ghost use Rattle.model.specs.Meaning.{KeyWithin};
 ghost use Rattle.fields.specs.Cursor.{Says};
-ghost use Rattle.raise_fields.specs.Meaning.{headValue, raiseValue, clearValue, namedSpan, HeadWithin, RaiseWithin, ClearWithin};
+ghost use Rattle.raise_fields.specs.Meaning.{headValue, raiseValue, clearValue, bodyBehind, namedSpan, HeadWithin, RaiseWithin, ClearWithin};
 
 // How a raise begins.
 pub struct RaiseHead {
@@ -92,7 +92,7 @@ fn is_named(region: OptSpan) -> bool
 // The text and the details, after the key.
 fn body_at(call: &[u8], at: Cursor, head: RaiseHead, key: KeyFields) -> RaiseRead
     requires { ⌜ HeadWithin (now call) head × KeyWithin (now call) key ⌝ }
-    ensures { λ r. ⌜ Says (now (call .entry)) at (raiseBody (headValue (now (call .entry)) head) (keyValue (now (call .entry)) key)) raiseValue RaiseWithin (r .raise) (r .next) ⌝ }
+    ensures { λ r. ⌜ Says (now (call .entry)) at (bodyBehind (now (call .entry)) head key) raiseValue RaiseWithin (r .raise) (r .next) ⌝ }
 {
     let text = fields::text_at(call, at, Record::TEXT);
     let at = text.next;

@@ -1,4 +1,4 @@
--- The fields, with their action.
+-- The fields of an action with policy become a call.
 use Rattle.fields.specs.CursorLaws.{becomes}
 use borrow.Author.Needs.{needs}
 use Rattle.call.proofs.policy_at.Statement.{statement}
