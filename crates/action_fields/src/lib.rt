@@ -97,7 +97,7 @@ pub fn plain_at(call: &[u8], at: Cursor) -> PlainRead
     let at = time.next;
     let id = fields::text_at(call, at, Record::SHORT);
     let at = id.next;
-    let id = id.text;
+    let id = id.span;
     let authorised = fields::choice_at(call, at, 0, 1);
     let at = authorised.next;
     PlainRead {
@@ -123,7 +123,7 @@ fn scope_at(call: &[u8], at: Cursor) -> ScopeRead
         0 => {
             let id = fields::text_at(call, at, Record::SHORT);
             let at = id.next;
-            let id = id.text;
+            let id = id.span;
             ScopeRead {
                 scope: Scope::Alarm(id),
                 next: at,
@@ -132,7 +132,7 @@ fn scope_at(call: &[u8], at: Cursor) -> ScopeRead
         1 => {
             let tenant = fields::text_at(call, at, Record::SHORT);
             let at = tenant.next;
-            let tenant = tenant.text;
+            let tenant = tenant.span;
             ScopeRead {
                 scope: Scope::Tenant(tenant),
                 next: at,
@@ -152,13 +152,13 @@ fn actor_at(call: &[u8], at: Cursor) -> ActorRead
     let at = time.next;
     let id = fields::text_at(call, at, Record::SHORT);
     let at = id.next;
-    let id = id.text;
+    let id = id.span;
     let principal = fields::text_at(call, at, Record::SHORT);
     let at = principal.next;
-    let principal = principal.text;
+    let principal = principal.span;
     let tenant = fields::option_at(call, at, Record::SHORT, StringKind::Text);
     let at = tenant.next;
-    let tenant = tenant.text;
+    let tenant = tenant.span;
     ActorRead {
         actor: Actor {
             time: time.value,
@@ -175,13 +175,13 @@ fn request_at(call: &[u8], at: Cursor) -> RequestRead
 {
     let reason = fields::text_at(call, at, Record::TEXT);
     let at = reason.next;
-    let reason = reason.text;
+    let reason = reason.span;
     let scope = scope_at(call, at);
     let at = scope.next;
     let scope = scope.scope;
     let correlation = fields::option_at(call, at, Record::SHORT, StringKind::Text);
     let at = correlation.next;
-    let correlation = correlation.text;
+    let correlation = correlation.span;
     RequestRead {
         request: Request {
             reason: reason,
@@ -201,7 +201,7 @@ fn verdict_at(call: &[u8], at: Cursor) -> VerdictRead
     let at = authorised.next;
     let denial = fields::text_at(call, at, Record::REGION);
     let at = denial.next;
-    let denial = denial.text;
+    let denial = denial.span;
     VerdictRead {
         verdict: Verdict {
             critical_allowed: critical.value,

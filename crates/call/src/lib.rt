@@ -134,10 +134,10 @@ fn history_at(call: &[u8], at: Cursor) -> CallRead
 {
     let tenant = fields::option_at(call, at, Record::SHORT, StringKind::Text);
     let at = tenant.next;
-    let tenant = tenant.text;
+    let tenant = tenant.span;
     let slice = fields::option_at(call, at, Record::SHORT, StringKind::Text);
     let at = slice.next;
-    let slice = slice.text;
+    let slice = slice.span;
     CallRead {
         parsed: Parsed::History {
             tenant: tenant,

@@ -1,6 +1,11 @@
 // Reads calls from the standard input, each behind its length in four bytes, and writes a line for each: what the parser says of it.
-// The files `stdin` and `stdout` of this crate are made by `python3 tests/calls/make.py`, which reads the calls by document 01 in a way
-// of its own; tests/calls/reading.py says how a line is written.
+//
+// The parser is proved to do what the definition says; this program is the witness that the definition says what document 01 means. The
+// files `stdin` and `stdout` are made by `python3 tests/calls/make.py`: calls good and damaged, and the lines of another reader of
+// document 01. tests/calls/reading.py says how a line is written.
+//
+// A line is a word for the operation and a word for each of its fields, in their order: a number, or a string's bytes in hex behind an x.
+// Nothing is claimed of what is written but that the program is safe and ends.
 use action_fields::Plain;
 use action_fields::Policy;
 use action_fields::Scope;

@@ -11,7 +11,7 @@ use Rattle.model.specs.Meaning.{part, causePart, within, causeWithin}
 use Rattle.model.specs.declared.Span.{Span}
 use Rattle.fields.specs.declared.Cursor.{Cursor}
 use Rattle.fields.specs.declared.Cursor.the-variants.{At, Fault}
-use Rattle.fields.specs.declared.TextRead.{TextRead}
+use Rattle.fields.specs.declared.SpanRead.{SpanRead}
 use Rattle.fields.specs.declared.CauseRead.{CauseRead}
 
 module _ {A : Type 0} where
@@ -35,8 +35,8 @@ module _ {A B : Type 0} where
   Says call at r value within answer next = Reads call at r (value call answer) next × within call answer
 
 -- the same of a string, the bytes of a span
-abbrev pub SaysString : Bytes → Cursor → Reader Bytes → ℕ → TextRead → Type 0
-SaysString call at r limit answer = Says call at r part (λ s. within s limit) (answer .text) (answer .next)
+abbrev pub SaysString : Bytes → Cursor → Reader Bytes → ℕ → SpanRead → Type 0
+SaysString call at r limit answer = Says call at r part (λ s. within s limit) (answer .span) (answer .next)
 
 abbrev pub refused : Cursor → ℕ → Cursor
 refused (At i) n = Fault n
@@ -46,8 +46,8 @@ refused (Fault k) n = Fault k
 unfoldable pub refusedUnless : Cursor → Bool → ℕ → Cursor
 refusedUnless at ok n = cond ok at (refused at n)
 
-abbrev pub noBytes : Cursor → TextRead
-noBytes q = record { text = record { at = 0; len = 0 }; next = q }
+abbrev pub noBytes : Cursor → SpanRead
+noBytes q = record { span = record { at = 0; len = 0 }; next = q }
 
 -- n bytes at a place, none at a fault
 abbrev pub bytesFrom : Cursor → ℕ → ℕ

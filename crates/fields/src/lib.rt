@@ -39,13 +39,13 @@ pub struct ByteRead {
     pub next: Cursor,
 }
 
-pub struct TextRead {
-    pub text: Span,
+pub struct SpanRead {
+    pub span: Span,
     pub next: Cursor,
 }
 
-pub struct OptRead {
-    pub text: OptSpan,
+pub struct OptSpanRead {
+    pub span: OptSpan,
     pub next: Cursor,
 }
 
@@ -75,17 +75,17 @@ pub fn refuse_unless(at: Cursor, ok: bool, number: u8) -> Cursor
 
 // ---- bytes
 
-fn no_bytes(next: Cursor) -> TextRead
+fn no_bytes(next: Cursor) -> SpanRead
     ensures { λ r. ⌜ r ≡ noBytes next ⌝ }
 {
-    TextRead {
-        text: Span { at: 0, len: 0 },
+    SpanRead {
+        span: Span { at: 0, len: 0 },
         next: next,
     }
 }
 
 // The next n bytes.
-fn bytes_at(call: &[u8], at: Cursor, n: usize) -> TextRead
+fn bytes_at(call: &[u8], at: Cursor, n: usize) -> SpanRead
     ensures { λ r. ⌜ SaysString (now (call .entry)) at (bytes n) (bytesFrom at n) r ⌝ }
 {
     match at {
@@ -100,8 +100,8 @@ fn bytes_at(call: &[u8], at: Cursor, n: usize) -> TextRead
             if call.len() - i < n {
                 return no_bytes(Cursor::Fault(24));
             }
-            TextRead {
-                text: Span { at: i, len: n },
+            SpanRead {
+                span: Span { at: i, len: n },
                 next: Cursor::At(i + n),
             }
         }
@@ -116,7 +116,7 @@ pub fn number_at(call: &[u8], at: Cursor, n: usize) -> NumRead
     ensures { λ r. ⌜ Reads (now (call .entry)) at (number n) (r .value) (r .next) × (r .value < 256 ^ n) ⌝ }
 {
     let b = bytes_at(call, at, n);
-    let p = b.text;
+    let p = b.span;
     let next = b.next;
     NumRead {
         value: octets::number(model::part(call, p)),
@@ -149,7 +149,7 @@ pub fn choice_at(call: &[u8], at: Cursor, lo: u8, hi: u8) -> ByteRead
 // ---- strings
 
 // A string, its bytes as they stand. The limit is tested before the bytes are looked for.
-fn blob_at(call: &[u8], at: Cursor, limit: usize) -> TextRead
+fn blob_at(call: &[u8], at: Cursor, limit: usize) -> SpanRead
     ensures { λ r. ⌜ SaysString (now (call .entry)) at (blob limit) limit r ⌝ }
 {
     let n = number_at(call, at, 4);
@@ -158,7 +158,7 @@ fn blob_at(call: &[u8], at: Cursor, limit: usize) -> TextRead
     bytes_at(call, refuse_unless(next, len <= limit, 26), len)
 }
 
-// Whether a kind takes a string's bytes: they are handed on.
+// Whether a string of this kind may have these bytes.
 fn obeys(part: &[u8], kind: StringKind) -> bool
     ensures { λ r. ⌜ r ≡ obeyed kind (now (part .entry)) ⌝ }
 {
@@ -169,47 +169,47 @@ fn obeys(part: &[u8], kind: StringKind) -> bool
 }
 
 // A string by its kind.
-fn string_at(call: &[u8], at: Cursor, limit: usize, kind: StringKind) -> TextRead
+fn string_at(call: &[u8], at: Cursor, limit: usize, kind: StringKind) -> SpanRead
     ensures { λ r. ⌜ SaysString (now (call .entry)) at (stringBy kind limit) limit r ⌝ }
 {
     let b = blob_at(call, at, limit);
-    let p = b.text;
+    let p = b.span;
     let next = b.next;
-    TextRead {
-        text: p,
+    SpanRead {
+        span: p,
         next: refuse_unless(next, obeys(model::part(call, p), kind), 27),
     }
 }
 
 // A string in UTF-8.
-pub fn text_at(call: &[u8], at: Cursor, limit: usize) -> TextRead
+pub fn text_at(call: &[u8], at: Cursor, limit: usize) -> SpanRead
     ensures { λ r. ⌜ SaysString (now (call .entry)) at (text limit) limit r ⌝ }
 {
     string_at(call, at, limit, StringKind::Text)
 }
 
 // An optional string: byte 0, or byte 1 and the string.
-pub fn option_at(call: &[u8], at: Cursor, limit: usize, kind: StringKind) -> OptRead
-    ensures { λ r. ⌜ Says (now (call .entry)) at (optional (stringBy kind limit)) optPart (λ s. optWithin s limit) (r .text) (r .next) ⌝ }
+pub fn option_at(call: &[u8], at: Cursor, limit: usize, kind: StringKind) -> OptSpanRead
+    ensures { λ r. ⌜ Says (now (call .entry)) at (optional (stringBy kind limit)) optPart (λ s. optWithin s limit) (r .span) (r .next) ⌝ }
 {
     let b = choice_at(call, at, 0, 1);
     let next = b.next;
     if b.value == 0 {
-        return OptRead {
-            text: OptSpan::Absent,
+        return OptSpanRead {
+            span: OptSpan::Absent,
             next: next,
         };
     }
     let t = string_at(call, next, limit, kind);
-    let p = t.text;
+    let p = t.span;
     let end = t.next;
-    OptRead {
-        text: OptSpan::Present(p),
+    OptSpanRead {
+        span: OptSpan::Present(p),
         next: end,
     }
 }
 
-// The cause that a part of the call is, which starts at a place: its bytes are handed on.
+// The cause that a part of the call is; the part starts at a place of the call.
 fn read_cause(lent: &[u8], at: usize, next: Cursor) -> CauseRead
     requires { ⌜ at + length (now lent) < 2 ^ 64 ⌝ }
     ensures { λ r. ⌜ IsCause (now (lent .entry)) at next r ⌝ }
@@ -235,7 +235,7 @@ pub fn cause_at(call: &[u8], at: Cursor) -> CauseRead
     ensures { λ r. ⌜ Says (now (call .entry)) at causeText causePart causeWithin (r .cause) (r .next) ⌝ }
 {
     let t = text_at(call, at, Record::CAUSE);
-    let p = t.text;
+    let p = t.span;
     let next = t.next;
     read_cause(model::part(call, p), p.at, next)
 }

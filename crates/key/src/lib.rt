@@ -2,8 +2,8 @@
 //
 // What is hashed is put into a buffer, one field behind the other, as the definition's `fed` gives it (Key.antt): strings and options as
 // in a call, an object as its kind's tag and strings. The buffer is as wide as the longest fields need, so that nothing is tested: each
-// function asks for room behind its place, and specs/Hashed.antt says how far from the beginning a field may stand. `key_of` promises
-// the definition's `keyOf`; `put_hex` writes a key's digits into an answer.
+// function asks for room behind its place, and specs/Hashed.antt says how much is left for which field. `key_of` promises the
+// definition's `keyOf`; `put_hex` writes a key's digits into an answer.
 use model::AffectedObject;
 use model::KeyFields;
 use model::OptSpan;

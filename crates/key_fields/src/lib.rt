@@ -68,10 +68,10 @@ fn pair_at(call: &[u8], at: Cursor, kind: u8) -> ObjectRead
 {
     let a = fields::text_at(call, at, Record::SHORT);
     let at = a.next;
-    let a = a.text;
+    let a = a.span;
     let b = fields::text_at(call, at, Record::SHORT);
     let at = b.next;
-    let b = b.text;
+    let b = b.span;
     ObjectRead {
         object: pair_of(kind, a, b),
         next: at,
@@ -84,10 +84,10 @@ fn session_store_at(call: &[u8], at: Cursor) -> ObjectRead
 {
     let nf = fields::text_at(call, at, Record::SHORT);
     let at = nf.next;
-    let nf = nf.text;
+    let nf = nf.span;
     let shard = fields::option_at(call, at, Record::SHORT, StringKind::Text);
     let at = shard.next;
-    let shard = shard.text;
+    let shard = shard.span;
     ObjectRead {
         object: AffectedObject::SessionStore {
             nf: nf,
@@ -103,7 +103,7 @@ fn single_at(call: &[u8], at: Cursor, kind: u8) -> ObjectRead
 {
     let a = fields::text_at(call, at, Record::SHORT);
     let at = a.next;
-    let a = a.text;
+    let a = a.span;
     ObjectRead {
         object: single_of(kind, a),
         next: at,
@@ -116,10 +116,10 @@ fn data_plane_queue_at(call: &[u8], at: Cursor) -> ObjectRead
 {
     let nf = fields::text_at(call, at, Record::SHORT);
     let at = nf.next;
-    let nf = nf.text;
+    let nf = nf.span;
     let interface = fields::text_at(call, at, Record::SHORT);
     let at = interface.next;
-    let interface = interface.text;
+    let interface = interface.span;
     let queue = fields::number_at(call, at, 2);
     let at = queue.next;
     ObjectRead {
@@ -163,13 +163,13 @@ fn places_at(call: &[u8], at: Cursor) -> PlacesRead
 {
     let tenant = fields::option_at(call, at, Record::SHORT, StringKind::Text);
     let at = tenant.next;
-    let tenant = tenant.text;
+    let tenant = tenant.span;
     let slice = fields::option_at(call, at, Record::SHORT, StringKind::Text);
     let at = slice.next;
-    let slice = slice.text;
+    let slice = slice.span;
     let region = fields::option_at(call, at, Record::REGION, StringKind::Text);
     let at = region.next;
-    let region = region.text;
+    let region = region.span;
     PlacesRead {
         places: Places {
             tenant: tenant,

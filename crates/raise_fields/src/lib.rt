@@ -62,10 +62,10 @@ fn head_at(call: &[u8], at: Cursor) -> HeadRead
     let at = time.next;
     let id = fields::text_at(call, at, Record::SHORT);
     let at = id.next;
-    let id = id.text;
+    let id = id.span;
     let alarm_type = fields::text_at(call, at, Record::SHORT);
     let at = alarm_type.next;
-    let alarm_type = alarm_type.text;
+    let alarm_type = alarm_type.span;
     let severity = fields::choice_at(call, at, 0, 5);
     let at = severity.next;
     HeadRead {
@@ -96,10 +96,10 @@ fn body_at(call: &[u8], at: Cursor, head: RaiseHead, key: KeyFields) -> RaiseRea
 {
     let text = fields::text_at(call, at, Record::TEXT);
     let at = text.next;
-    let text = text.text;
+    let text = text.span;
     let details = fields::option_at(call, at, Record::DETAILS, StringKind::Blob);
     let at = details.next;
-    let details = details.text;
+    let details = details.span;
     RaiseRead {
         raise: Raise {
             head: head,
@@ -137,7 +137,7 @@ pub fn clear_at(call: &[u8], at: Cursor) -> ClearRead
     let at = time.next;
     let alarm_type = fields::text_at(call, at, Record::SHORT);
     let at = alarm_type.next;
-    let alarm_type = alarm_type.text;
+    let alarm_type = alarm_type.span;
     let key = key_fields::key_at(call, at);
     let at = key.next;
     let key = key.key;
