@@ -1,14 +1,25 @@
-// The fields of an acknowledgement or a suppression with policy.
+// The fields of an acknowledgement or a suppression, without and with a policy: operations 3 to 6.
+//
+// An acknowledgement and a suppression have the same fields, so that nothing here depends on the action: `call` keeps it beside them.
+// With a policy, a call says who asks (the actor), why and for what (the request), and what the authoriser answered (the verdict).
+// specs/Meaning.antt says which value of the definition each struct means, and within which limits its spans lie: who puts them into an
+// audit event relies on these.
 use fields::Cursor;
 use fields::StringKind;
 use model::OptSpan;
 use model::Record;
 use model::Span;
-ghost use Rattle.definition.specs.Limits.{regionLimit};
-ghost use Rattle.definition.specs.Parse.{scope, actor, request, verdict, policyFields};
-ghost use Rattle.fields.specs.Cursor.{Reads};
-ghost use Rattle.model.specs.Meaning.{within};
-ghost use Rattle.action_fields.specs.Meaning.{scopeValue, actorValue, requestValue, verdictValue, policyValue, scopeWithin, ActorWithin, RequestWithin, PolicyWithin};
+ghost use Rattle.definition.specs.Parse.{plainFields, scope, actor, request, verdict, policyFields};
+ghost use Rattle.fields.specs.Cursor.{Says};
+ghost use Rattle.action_fields.specs.Meaning.{plainValue, scopeValue, actorValue, requestValue, verdictValue, policyValue};
+ghost use Rattle.action_fields.specs.Meaning.{plainWithin, scopeWithin, ActorWithin, RequestWithin, verdictWithin, PolicyWithin};
+
+// An acknowledgement or a suppression without a policy. The flag is 0 or 1.
+pub struct Plain {
+    pub time: u64,
+    pub id: Span,
+    pub authorised: u8,
+}
 
 // What is asked for: one alarm by its id, the alarms of a tenant, or all.
 pub enum Scope {
@@ -46,6 +57,11 @@ pub struct Policy {
 }
 
 // What a reader answers: a value, and where the reading stands after it.
+pub struct PlainRead {
+    pub plain: Plain,
+    pub next: Cursor,
+}
+
 struct ScopeRead {
     scope: Scope,
     next: Cursor,
@@ -71,9 +87,34 @@ pub struct PolicyRead {
     pub next: Cursor,
 }
 
+// ---- 3 acknowledge, 4 suppress
+
+// The fields of operations 3 and 4 at a place.
+pub fn plain_at(call: &[u8], at: Cursor) -> PlainRead
+    ensures { λ r. ⌜ Says (now (call .entry)) at plainFields plainValue plainWithin (r .plain) (r .next) ⌝ }
+{
+    let time = fields::number_at(call, at, 8);
+    let at = time.next;
+    let id = fields::text_at(call, at, Record::SHORT);
+    let at = id.next;
+    let id = id.span;
+    let authorised = fields::choice_at(call, at, 0, 1);
+    let at = authorised.next;
+    PlainRead {
+        plain: Plain {
+            time: time.value,
+            id: id,
+            authorised: authorised.value,
+        },
+        next: at,
+    }
+}
+
+// ---- 5, 6 the same with policy
+
 // A kind, and the string of the kinds 0 and 1.
 fn scope_at(call: &[u8], at: Cursor) -> ScopeRead
-    ensures { λ r. ⌜ Reads (now (call .entry)) at scope (scopeValue (now (call .entry)) (r .scope)) (r .next) × scopeWithin (now (call .entry)) (r .scope) ⌝ }
+    ensures { λ r. ⌜ Says (now (call .entry)) at scope scopeValue scopeWithin (r .scope) (r .next) ⌝ }
 {
     let kind = fields::choice_at(call, at, 0, 2);
     let at = kind.next;
@@ -82,7 +123,7 @@ fn scope_at(call: &[u8], at: Cursor) -> ScopeRead
         0 => {
             let id = fields::text_at(call, at, Record::SHORT);
             let at = id.next;
-            let id = id.text;
+            let id = id.span;
             ScopeRead {
                 scope: Scope::Alarm(id),
                 next: at,
@@ -91,7 +132,7 @@ fn scope_at(call: &[u8], at: Cursor) -> ScopeRead
         1 => {
             let tenant = fields::text_at(call, at, Record::SHORT);
             let at = tenant.next;
-            let tenant = tenant.text;
+            let tenant = tenant.span;
             ScopeRead {
                 scope: Scope::Tenant(tenant),
                 next: at,
@@ -105,19 +146,19 @@ fn scope_at(call: &[u8], at: Cursor) -> ScopeRead
 }
 
 fn actor_at(call: &[u8], at: Cursor) -> ActorRead
-    ensures { λ r. ⌜ Reads (now (call .entry)) at actor (actorValue (now (call .entry)) (r .actor)) (r .next) × ActorWithin (now (call .entry)) (r .actor) ⌝ }
+    ensures { λ r. ⌜ Says (now (call .entry)) at actor actorValue ActorWithin (r .actor) (r .next) ⌝ }
 {
     let time = fields::number_at(call, at, 8);
     let at = time.next;
     let id = fields::text_at(call, at, Record::SHORT);
     let at = id.next;
-    let id = id.text;
+    let id = id.span;
     let principal = fields::text_at(call, at, Record::SHORT);
     let at = principal.next;
-    let principal = principal.text;
+    let principal = principal.span;
     let tenant = fields::option_at(call, at, Record::SHORT, StringKind::Text);
     let at = tenant.next;
-    let tenant = tenant.text;
+    let tenant = tenant.span;
     ActorRead {
         actor: Actor {
             time: time.value,
@@ -130,17 +171,17 @@ fn actor_at(call: &[u8], at: Cursor) -> ActorRead
 }
 
 fn request_at(call: &[u8], at: Cursor) -> RequestRead
-    ensures { λ r. ⌜ Reads (now (call .entry)) at request (requestValue (now (call .entry)) (r .request)) (r .next) × RequestWithin (now (call .entry)) (r .request) ⌝ }
+    ensures { λ r. ⌜ Says (now (call .entry)) at request requestValue RequestWithin (r .request) (r .next) ⌝ }
 {
     let reason = fields::text_at(call, at, Record::TEXT);
     let at = reason.next;
-    let reason = reason.text;
+    let reason = reason.span;
     let scope = scope_at(call, at);
     let at = scope.next;
     let scope = scope.scope;
     let correlation = fields::option_at(call, at, Record::SHORT, StringKind::Text);
     let at = correlation.next;
-    let correlation = correlation.text;
+    let correlation = correlation.span;
     RequestRead {
         request: Request {
             reason: reason,
@@ -152,7 +193,7 @@ fn request_at(call: &[u8], at: Cursor) -> RequestRead
 }
 
 fn verdict_at(call: &[u8], at: Cursor) -> VerdictRead
-    ensures { λ r. ⌜ Reads (now (call .entry)) at verdict (verdictValue (now (call .entry)) (r .verdict)) (r .next) × within (now (call .entry)) regionLimit (r .verdict .denial) ⌝ }
+    ensures { λ r. ⌜ Says (now (call .entry)) at verdict verdictValue verdictWithin (r .verdict) (r .next) ⌝ }
 {
     let critical = fields::choice_at(call, at, 0, 1);
     let at = critical.next;
@@ -160,7 +201,7 @@ fn verdict_at(call: &[u8], at: Cursor) -> VerdictRead
     let at = authorised.next;
     let denial = fields::text_at(call, at, Record::REGION);
     let at = denial.next;
-    let denial = denial.text;
+    let denial = denial.span;
     VerdictRead {
         verdict: Verdict {
             critical_allowed: critical.value,
@@ -173,7 +214,7 @@ fn verdict_at(call: &[u8], at: Cursor) -> VerdictRead
 
 // The fields of operations 5 and 6 at a place.
 pub fn policy_at(call: &[u8], at: Cursor) -> PolicyRead
-    ensures { λ r. ⌜ Reads (now (call .entry)) at policyFields (policyValue (now (call .entry)) (r .policy)) (r .next) × PolicyWithin (now (call .entry)) (r .policy) ⌝ }
+    ensures { λ r. ⌜ Says (now (call .entry)) at policyFields policyValue PolicyWithin (r .policy) (r .next) ⌝ }
 {
     let actor = actor_at(call, at);
     let at = actor.next;

@@ -1,12 +1,21 @@
-// A call: its operation and its fields, read to numbers, and to places and lengths of its strings.
+// A call read whole: its operation byte, then its fields in order, and nothing after.
+//
+// `parse` answers the operation with its fields, as numbers and as spans of the call's bytes; or, as `Refused`, the number of the call's
+// first fault, 23 to 29. What the answer means on these bytes, `meaning` in specs/Meaning.antt, is what the definition's `parseCall`
+// gives (Parse.antt), and every span lies in the call, within its limit: operations look at their bytes and test nothing.
+//
+// Each operation has a reader, `.._at`, which reads by the crate of its fields and answers a call. A new operation is a variant of
+// `Parsed`, with its lines in `meaning` and `parsedWithin`, a reader, and an arm of `operation_at`.
+use action_fields::Plain;
+use action_fields::PlainRead;
 use action_fields::Policy;
 use action_fields::PolicyRead;
 use fields::Cursor;
 use fields::NumRead;
 use fields::StringKind;
+use model::Action;
 use model::OptSpan;
 use model::Record;
-use model::Span;
 use raise_fields::Clear;
 use raise_fields::ClearRead;
 use raise_fields::Raise;
@@ -15,29 +24,20 @@ ghost use mathlib.Core.Path.{_≡_};
 ghost use mathlib.Core.Bool.{_||_};
 ghost use Prim.Native.Nat.{_<_};
 ghost use lib.Dec.{leb, eqb};
-ghost use Rattle.definition.specs.Limits.{shortLimit};
-ghost use Rattle.definition.specs.Reader.{into};
+ghost use Rattle.definition.specs.Reader.{number, into};
 ghost use Rattle.definition.specs.Value.{CallValue};
-ghost use Rattle.definition.specs.Parse.{plainFields, severityOrAll, historyFields, fieldsOf, whole, parseCall};
-ghost use Rattle.model.specs.Meaning.{within};
-ghost use Rattle.fields.specs.Cursor.{outAt, Reads};
-ghost use Rattle.call.specs.Meaning.{plainValue, meaning, parsedWithin, Says};
-
-// An acknowledgement or a suppression without a policy. The flag is 0 or 1.
-pub struct Plain {
-    pub time: u64,
-    pub id: Span,
-    pub authorised: u8,
-}
+ghost use Rattle.definition.specs.Parse.{raiseFields, clearFields, plainFields, policyFields, severityOrAll, historyFields};
+ghost use Rattle.definition.specs.Parse.{fieldsOf, whole, parseCall};
+ghost use Rattle.model.specs.Meaning.{actionOf};
+ghost use Rattle.fields.specs.Cursor.{outAt};
+ghost use Rattle.call.specs.Meaning.{meaning, parsedWithin, SaysCall, Means};
 
 // A call, or the number of its first fault.
 pub enum Parsed {
     Raise(Raise),
     Clear(Clear),
-    Acknowledge(Plain),
-    Suppress(Plain),
-    AcknowledgePolicy(Policy),
-    SuppressPolicy(Policy),
+    Plain(Action, Plain),
+    Policy(Action, Policy),
     Expire(u64),
     Active(u8),
     History { tenant: OptSpan, slice: OptSpan },
@@ -47,12 +47,7 @@ pub enum Parsed {
     Refused(u8),
 }
 
-// What a reader answers: a value, and where the reading stands after it.
-struct PlainRead {
-    plain: Plain,
-    next: Cursor,
-}
-
+// What a reader answers: a call, and where the reading stands after it.
 struct CallRead {
     parsed: Parsed,
     next: Cursor,
@@ -60,20 +55,20 @@ struct CallRead {
 
 // ---- 1 raise, 2 clear
 
-fn raise_of(r: RaiseRead) -> CallRead
-    ensures { λ c. ⌜ (c .parsed ≡ Parsed.Raise (r .raise)) × (c .next ≡ r .next) ⌝ }
+fn raise_at(call: &[u8], at: Cursor) -> CallRead
+    ensures { λ r. ⌜ SaysCall (now (call .entry)) at (into CallValue.raise raiseFields) r ⌝ }
 {
-    let RaiseRead { raise, next } = r;
+    let RaiseRead { raise, next } = raise_fields::raise_at(call, at);
     CallRead {
         parsed: Parsed::Raise(raise),
         next: next,
     }
 }
 
-fn clear_of(r: ClearRead) -> CallRead
-    ensures { λ c. ⌜ (c .parsed ≡ Parsed.Clear (r .clear)) × (c .next ≡ r .next) ⌝ }
+fn clear_at(call: &[u8], at: Cursor) -> CallRead
+    ensures { λ r. ⌜ SaysCall (now (call .entry)) at (into CallValue.clear clearFields) r ⌝ }
 {
-    let ClearRead { clear, next } = r;
+    let ClearRead { clear, next } = raise_fields::clear_at(call, at);
     CallRead {
         parsed: Parsed::Clear(clear),
         next: next,
@@ -82,72 +77,33 @@ fn clear_of(r: ClearRead) -> CallRead
 
 // ---- 3 acknowledge, 4 suppress, and 5, 6 the same with policy
 
-fn plain_at(call: &[u8], at: Cursor) -> PlainRead
-    ensures { λ r. ⌜ Reads (now (call .entry)) at plainFields (plainValue (now (call .entry)) (r .plain)) (r .next) × within (now (call .entry)) shortLimit (r .plain .id) ⌝ }
+fn plain_at(call: &[u8], at: Cursor, action: Action) -> CallRead
+    ensures { λ r. ⌜ SaysCall (now (call .entry)) at (into (CallValue.plain (actionOf action)) plainFields) r ⌝ }
 {
-    let time = fields::number_at(call, at, 8);
-    let at = time.next;
-    let id = fields::text_at(call, at, Record::SHORT);
-    let at = id.next;
-    let id = id.text;
-    let authorised = fields::choice_at(call, at, 0, 1);
-    let at = authorised.next;
-    PlainRead {
-        plain: Plain {
-            time: time.value,
-            id: id,
-            authorised: authorised.value,
-        },
-        next: at,
-    }
-}
-
-fn acknowledge_of(r: PlainRead) -> CallRead
-    ensures { λ c. ⌜ (c .parsed ≡ Parsed.Acknowledge (r .plain)) × (c .next ≡ r .next) ⌝ }
-{
-    let PlainRead { plain, next } = r;
+    let PlainRead { plain, next } = action_fields::plain_at(call, at);
     CallRead {
-        parsed: Parsed::Acknowledge(plain),
+        parsed: Parsed::Plain(action, plain),
         next: next,
     }
 }
 
-fn suppress_of(r: PlainRead) -> CallRead
-    ensures { λ c. ⌜ (c .parsed ≡ Parsed.Suppress (r .plain)) × (c .next ≡ r .next) ⌝ }
+fn policy_at(call: &[u8], at: Cursor, action: Action) -> CallRead
+    ensures { λ r. ⌜ SaysCall (now (call .entry)) at (into (CallValue.policy (actionOf action)) policyFields) r ⌝ }
 {
-    let PlainRead { plain, next } = r;
+    let PolicyRead { policy, next } = action_fields::policy_at(call, at);
     CallRead {
-        parsed: Parsed::Suppress(plain),
-        next: next,
-    }
-}
-
-fn acknowledge_policy_of(r: PolicyRead) -> CallRead
-    ensures { λ c. ⌜ (c .parsed ≡ Parsed.AcknowledgePolicy (r .policy)) × (c .next ≡ r .next) ⌝ }
-{
-    let PolicyRead { policy, next } = r;
-    CallRead {
-        parsed: Parsed::AcknowledgePolicy(policy),
-        next: next,
-    }
-}
-
-fn suppress_policy_of(r: PolicyRead) -> CallRead
-    ensures { λ c. ⌜ (c .parsed ≡ Parsed.SuppressPolicy (r .policy)) × (c .next ≡ r .next) ⌝ }
-{
-    let PolicyRead { policy, next } = r;
-    CallRead {
-        parsed: Parsed::SuppressPolicy(policy),
+        parsed: Parsed::Policy(action, policy),
         next: next,
     }
 }
 
 // ---- 7 expire, 8 active list, 9 history, 12 take audit
 
-fn expire_of(r: NumRead) -> CallRead
-    ensures { λ c. ⌜ (c .parsed ≡ Parsed.Expire (r .value)) × (c .next ≡ r .next) ⌝ }
+// The cutoff time.
+fn expire_at(call: &[u8], at: Cursor) -> CallRead
+    ensures { λ r. ⌜ SaysCall (now (call .entry)) at (into CallValue.expire (number 8)) r ⌝ }
 {
-    let NumRead { value, next } = r;
+    let NumRead { value, next } = fields::number_at(call, at, 8);
     CallRead {
         parsed: Parsed::Expire(value),
         next: next,
@@ -162,7 +118,7 @@ fn is_severity_or_all(v: u64) -> bool
 
 // A severity, or 255 for all.
 fn active_at(call: &[u8], at: Cursor) -> CallRead
-    ensures { λ r. ⌜ Says (now (call .entry)) at (into CallValue.active severityOrAll) r ⌝ }
+    ensures { λ r. ⌜ SaysCall (now (call .entry)) at (into CallValue.active severityOrAll) r ⌝ }
 {
     let severity = fields::number_at(call, at, 1);
     let at = severity.next;
@@ -174,14 +130,14 @@ fn active_at(call: &[u8], at: Cursor) -> CallRead
 }
 
 fn history_at(call: &[u8], at: Cursor) -> CallRead
-    ensures { λ r. ⌜ Says (now (call .entry)) at historyFields r ⌝ }
+    ensures { λ r. ⌜ SaysCall (now (call .entry)) at historyFields r ⌝ }
 {
     let tenant = fields::option_at(call, at, Record::SHORT, StringKind::Text);
     let at = tenant.next;
-    let tenant = tenant.text;
+    let tenant = tenant.span;
     let slice = fields::option_at(call, at, Record::SHORT, StringKind::Text);
     let at = slice.next;
-    let slice = slice.text;
+    let slice = slice.span;
     CallRead {
         parsed: Parsed::History {
             tenant: tenant,
@@ -191,11 +147,11 @@ fn history_at(call: &[u8], at: Cursor) -> CallRead
     }
 }
 
-fn take_audit_of(r: NumRead) -> CallRead
-    requires { ⌜ r .value < 65536 ⌝ }
-    ensures { λ c. ⌜ (c .parsed ≡ Parsed.TakeAudit (r .value)) × (c .next ≡ r .next) ⌝ }
+// How many events.
+fn take_audit_at(call: &[u8], at: Cursor) -> CallRead
+    ensures { λ r. ⌜ SaysCall (now (call .entry)) at (into CallValue.takeAudit (number 2)) r ⌝ }
 {
-    let NumRead { value, next } = r;
+    let NumRead { value, next } = fields::number_at(call, at, 2);
     CallRead {
         parsed: Parsed::TakeAudit(value as u16),
         next: next,
@@ -206,16 +162,16 @@ fn take_audit_of(r: NumRead) -> CallRead
 
 // The fields of an operation.
 fn operation_at(call: &[u8], at: Cursor, op: u8) -> CallRead
-    ensures { λ r. ⌜ Says (now (call .entry)) at (fieldsOf op) r ⌝ }
+    ensures { λ r. ⌜ SaysCall (now (call .entry)) at (fieldsOf op) r ⌝ }
 {
     match op {
-        1 => raise_of(raise_fields::raise_at(call, at)),
-        2 => clear_of(raise_fields::clear_at(call, at)),
-        3 => acknowledge_of(plain_at(call, at)),
-        4 => suppress_of(plain_at(call, at)),
-        5 => acknowledge_policy_of(action_fields::policy_at(call, at)),
-        6 => suppress_policy_of(action_fields::policy_at(call, at)),
-        7 => expire_of(fields::number_at(call, at, 8)),
+        1 => raise_at(call, at),
+        2 => clear_at(call, at),
+        3 => plain_at(call, at, Action::Acknowledge),
+        4 => plain_at(call, at, Action::Suppress),
+        5 => policy_at(call, at, Action::Acknowledge),
+        6 => policy_at(call, at, Action::Suppress),
+        7 => expire_at(call, at),
         8 => active_at(call, at),
         9 => history_at(call, at),
         10 => CallRead {
@@ -226,7 +182,7 @@ fn operation_at(call: &[u8], at: Cursor, op: u8) -> CallRead
             parsed: Parsed::Summary,
             next: at,
         },
-        12 => take_audit_of(fields::number_at(call, at, 2)),
+        12 => take_audit_at(call, at),
         _ => CallRead {
             parsed: Parsed::Refused(23),
             next: fields::refuse_unless(at, false, 23),
@@ -237,7 +193,7 @@ fn operation_at(call: &[u8], at: Cursor, op: u8) -> CallRead
 // A call whose fields were read: nothing may come after them.
 fn finished(call: &[u8], at: Cursor, p: Parsed) -> Parsed
     requires { ⌜ parsedWithin (now call) p ⌝ }
-    ensures { λ r. ⌜ (meaning (now (call .entry)) r ≡ whole (outAt (now (call .entry)) (meaning (now (call .entry)) p) at)) × parsedWithin (now (call .entry)) r ⌝ }
+    ensures { λ r. ⌜ Means (now (call .entry)) r (whole (outAt (now (call .entry)) (meaning (now (call .entry)) p) at)) ⌝ }
 {
     match at {
         Cursor::Fault(k) => Parsed::Refused(k),
@@ -252,7 +208,7 @@ fn finished(call: &[u8], at: Cursor, p: Parsed) -> Parsed
 
 // What a call says.
 pub fn parse(call: &[u8]) -> Parsed
-    ensures { λ r. ⌜ (meaning (now (call .entry)) r ≡ parseCall (now (call .entry))) × parsedWithin (now (call .entry)) r ⌝ }
+    ensures { λ r. ⌜ Means (now (call .entry)) r (parseCall (now (call .entry))) ⌝ }
 {
     if call.len() == 0 {
         return Parsed::Refused(23);

@@ -12,7 +12,7 @@ use Rattle.octets.specs.Bytes.{Bytes}
 use Rattle.definition.specs.Reader.{bytes}
 use Rattle.model.specs.Meaning.{part, within}
 use Rattle.model.specs.declared.Span.{Span}
-use Rattle.fields.specs.Cursor.{Reads, checked, bytesFrom}
+use Rattle.fields.specs.Cursor.{Reads, refusedUnless, bytesFrom}
 use Rattle.fields.specs.declared.Cursor.{Cursor}
 use Rattle.fields.specs.declared.Cursor.the-variants.{At, Fault}
 
@@ -40,11 +40,11 @@ pub below-power : {v m n : ℕ} → m ≤ n → v < 256 ^ m → v < 256 ^ n
 below-power h k = lt-of-lt-of-le k (pow-le-pow-right {n = 256} (omega arith) h)
 
 -- bytes that are asked for within a limit are within it
-pub bytes-from-checked : (q : Cursor) (n limit k : ℕ) → bytesFrom (checked q (leb n limit) k) n ≤ limit
-unfolding checked
-bytes-from-checked q n limit k = go (leb n limit) refl q
+pub bytes-from-refused : (q : Cursor) (n limit k : ℕ) → bytesFrom (refusedUnless q (leb n limit) k) n ≤ limit
+unfolding refusedUnless
+bytes-from-refused q n limit k = go (leb n limit) refl q
   where
-    go : (b : Bool) → leb n limit ≡ b → (q : Cursor) → bytesFrom (checked q b k) n ≤ limit
+    go : (b : Bool) → leb n limit ≡ b → (q : Cursor) → bytesFrom (refusedUnless q b k) n ≤ limit
     go true e (At i) = leb-true n limit e
     go true e (Fault j) = omega arith
     go false e (At i) = omega arith

@@ -11,7 +11,7 @@ use Rattle.model.specs.Meaning.{part, causePart, within, causeWithin}
 use Rattle.model.specs.declared.Span.{Span}
 use Rattle.fields.specs.declared.Cursor.{Cursor}
 use Rattle.fields.specs.declared.Cursor.the-variants.{At, Fault}
-use Rattle.fields.specs.declared.TextRead.{TextRead}
+use Rattle.fields.specs.declared.SpanRead.{SpanRead}
 use Rattle.fields.specs.declared.CauseRead.{CauseRead}
 
 module _ {A : Type 0} where
@@ -29,16 +29,25 @@ module _ {A : Type 0} where
 pub record Reads {A : Type 0} (call : Bytes) (at : Cursor) (r : Reader A) (v : A) (next : Cursor) : Type 0 where
   pub out : outAt call v next ≡ from call at r
 
+module _ {A B : Type 0} where
+  -- on from a place r gives the value that an answer means on the call's bytes; every part of the answer lies in the call, within its limit
+  abbrev pub Says : Bytes → Cursor → Reader B → (Bytes → A → B) → (Bytes → A → Type 0) → A → Cursor → Type 0
+  Says call at r value within answer next = Reads call at r (value call answer) next × within call answer
+
+-- the same of a string, the bytes of a span
+abbrev pub SaysString : Bytes → Cursor → Reader Bytes → ℕ → SpanRead → Type 0
+SaysString call at r limit answer = Says call at r part (λ s. within s limit) (answer .span) (answer .next)
+
 abbrev pub refused : Cursor → ℕ → Cursor
 refused (At i) n = Fault n
 refused (Fault k) n = Fault k
 
 -- a fault unless a test holds
-unfoldable pub checked : Cursor → Bool → ℕ → Cursor
-checked at ok n = cond ok at (refused at n)
+unfoldable pub refusedUnless : Cursor → Bool → ℕ → Cursor
+refusedUnless at ok n = cond ok at (refused at n)
 
-abbrev pub noBytes : Cursor → TextRead
-noBytes q = record { text = record { at = 0; len = 0 }; next = q }
+abbrev pub noBytes : Cursor → SpanRead
+noBytes q = record { span = record { at = 0; len = 0 }; next = q }
 
 -- n bytes at a place, none at a fault
 abbrev pub bytesFrom : Cursor → ℕ → ℕ

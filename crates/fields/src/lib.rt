@@ -1,4 +1,12 @@
-// The fields of a call, on from a place: each is read from its part of the call's bytes.
+// The fields of a call: numbers, choices, strings, options and causes, read one behind the other from its bytes.
+//
+// A reader is told where the reading stands, at a place or at the call's first fault, and answers a value with where it stands then. A
+// fault is handed on, so that readers follow one another without a test between them, and the first fault wins. Nothing is copied: a
+// string is a span, its place and its length in the call.
+//
+// Each contract says that the reader does what the definition's reader of the same name does (Reader.antt), and that a span lies in the
+// call, within its limit: who looks at its bytes later tests nothing. `Says` in specs/Cursor.antt is that promise, and
+// specs/CursorLaws.antt has the laws by which the readers of a row of fields are proved: `step`, `tested`, `done`.
 use cause::Cause;
 use model::CauseSpan;
 use model::OptSpan;
@@ -10,17 +18,17 @@ ghost use Prim.Native.Nat.{_+_, _^_, _≤_, _<_};
 ghost use lib.Dec.{leb};
 ghost use lib.ListN.{length};
 ghost use Rattle.definition.specs.Reader.{bytes, number, choice, blob, text, optional, causeText};
-ghost use Rattle.model.specs.Meaning.{part, optPart, causePart, within, optWithin, causeWithin};
-ghost use Rattle.fields.specs.Cursor.{checked, noBytes, bytesFrom, Reads, IsCause};
+ghost use Rattle.model.specs.Meaning.{optPart, causePart, optWithin, causeWithin};
+ghost use Rattle.fields.specs.Cursor.{refusedUnless, noBytes, bytesFrom, Reads, Says, SaysString, IsCause};
 ghost use Rattle.fields.specs.StringKind.{obeyed, stringBy};
 
-// Where the reading of a call stands: at a place, or at its first fault, which wins: a reader that is handed a fault hands it on.
+// Where the reading of a call stands: at a place, or at its first fault, by its number.
 pub enum Cursor {
     At(usize),
     Fault(u8),
 }
 
-// What a reader answers: a value, and where the reading stands after it. The value means something where that is a place.
+// What a reader answers: a value, and where the reading stands after it; the value means something where that is a place.
 pub struct NumRead {
     pub value: u64,
     pub next: Cursor,
@@ -31,13 +39,13 @@ pub struct ByteRead {
     pub next: Cursor,
 }
 
-pub struct TextRead {
-    pub text: Span,
+pub struct SpanRead {
+    pub span: Span,
     pub next: Cursor,
 }
 
-pub struct OptRead {
-    pub text: OptSpan,
+pub struct OptSpanRead {
+    pub span: OptSpan,
     pub next: Cursor,
 }
 
@@ -54,7 +62,7 @@ pub enum StringKind {
 
 // A fault with this number, unless a test held or there is a fault already.
 pub fn refuse_unless(at: Cursor, ok: bool, number: u8) -> Cursor
-    ensures { λ r. ⌜ r ≡ checked at ok number ⌝ }
+    ensures { λ r. ⌜ r ≡ refusedUnless at ok number ⌝ }
 {
     if ok {
         return at;
@@ -65,30 +73,20 @@ pub fn refuse_unless(at: Cursor, ok: bool, number: u8) -> Cursor
     }
 }
 
-// ---- parts of the call
+// ---- bytes
 
-// The part of the call that a span is.
-fn part_of(call: &[u8], p: Span) -> &[u8]
-    requires { ⌜ p .at + p .len ≤ length (now call) ⌝ }
-    ensures { λ r. ⌜ now r ≡ part (now (call .entry)) p ⌝ }
-{
-    let a = p.at;
-    let e = a + p.len;
-    &call[a..e]
-}
-
-fn no_bytes(next: Cursor) -> TextRead
+fn no_bytes(next: Cursor) -> SpanRead
     ensures { λ r. ⌜ r ≡ noBytes next ⌝ }
 {
-    TextRead {
-        text: Span { at: 0, len: 0 },
+    SpanRead {
+        span: Span { at: 0, len: 0 },
         next: next,
     }
 }
 
 // The next n bytes.
-fn bytes_at(call: &[u8], at: Cursor, n: usize) -> TextRead
-    ensures { λ r. ⌜ Reads (now (call .entry)) at (bytes n) (part (now (call .entry)) (r .text)) (r .next) × within (now (call .entry)) (bytesFrom at n) (r .text) ⌝ }
+fn bytes_at(call: &[u8], at: Cursor, n: usize) -> SpanRead
+    ensures { λ r. ⌜ SaysString (now (call .entry)) at (bytes n) (bytesFrom at n) r ⌝ }
 {
     match at {
         Cursor::Fault(k) => no_bytes(Cursor::Fault(k)),
@@ -102,8 +100,8 @@ fn bytes_at(call: &[u8], at: Cursor, n: usize) -> TextRead
             if call.len() - i < n {
                 return no_bytes(Cursor::Fault(24));
             }
-            TextRead {
-                text: Span { at: i, len: n },
+            SpanRead {
+                span: Span { at: i, len: n },
                 next: Cursor::At(i + n),
             }
         }
@@ -118,10 +116,10 @@ pub fn number_at(call: &[u8], at: Cursor, n: usize) -> NumRead
     ensures { λ r. ⌜ Reads (now (call .entry)) at (number n) (r .value) (r .next) × (r .value < 256 ^ n) ⌝ }
 {
     let b = bytes_at(call, at, n);
-    let p = b.text;
+    let p = b.span;
     let next = b.next;
     NumRead {
-        value: octets::number(part_of(call, p)),
+        value: octets::number(model::part(call, p)),
         next: next,
     }
 }
@@ -151,8 +149,8 @@ pub fn choice_at(call: &[u8], at: Cursor, lo: u8, hi: u8) -> ByteRead
 // ---- strings
 
 // A string, its bytes as they stand. The limit is tested before the bytes are looked for.
-fn blob_at(call: &[u8], at: Cursor, limit: usize) -> TextRead
-    ensures { λ r. ⌜ Reads (now (call .entry)) at (blob limit) (part (now (call .entry)) (r .text)) (r .next) × within (now (call .entry)) limit (r .text) ⌝ }
+fn blob_at(call: &[u8], at: Cursor, limit: usize) -> SpanRead
+    ensures { λ r. ⌜ SaysString (now (call .entry)) at (blob limit) limit r ⌝ }
 {
     let n = number_at(call, at, 4);
     let len = n.value as usize;
@@ -160,7 +158,7 @@ fn blob_at(call: &[u8], at: Cursor, limit: usize) -> TextRead
     bytes_at(call, refuse_unless(next, len <= limit, 26), len)
 }
 
-// Whether a kind takes a string's bytes: they are handed on.
+// Whether a string of this kind may have these bytes.
 fn obeys(part: &[u8], kind: StringKind) -> bool
     ensures { λ r. ⌜ r ≡ obeyed kind (now (part .entry)) ⌝ }
 {
@@ -171,47 +169,47 @@ fn obeys(part: &[u8], kind: StringKind) -> bool
 }
 
 // A string by its kind.
-fn string_at(call: &[u8], at: Cursor, limit: usize, kind: StringKind) -> TextRead
-    ensures { λ r. ⌜ Reads (now (call .entry)) at (stringBy kind limit) (part (now (call .entry)) (r .text)) (r .next) × within (now (call .entry)) limit (r .text) ⌝ }
+fn string_at(call: &[u8], at: Cursor, limit: usize, kind: StringKind) -> SpanRead
+    ensures { λ r. ⌜ SaysString (now (call .entry)) at (stringBy kind limit) limit r ⌝ }
 {
     let b = blob_at(call, at, limit);
-    let p = b.text;
+    let p = b.span;
     let next = b.next;
-    TextRead {
-        text: p,
-        next: refuse_unless(next, obeys(part_of(call, p), kind), 27),
+    SpanRead {
+        span: p,
+        next: refuse_unless(next, obeys(model::part(call, p), kind), 27),
     }
 }
 
 // A string in UTF-8.
-pub fn text_at(call: &[u8], at: Cursor, limit: usize) -> TextRead
-    ensures { λ r. ⌜ Reads (now (call .entry)) at (text limit) (part (now (call .entry)) (r .text)) (r .next) × within (now (call .entry)) limit (r .text) ⌝ }
+pub fn text_at(call: &[u8], at: Cursor, limit: usize) -> SpanRead
+    ensures { λ r. ⌜ SaysString (now (call .entry)) at (text limit) limit r ⌝ }
 {
     string_at(call, at, limit, StringKind::Text)
 }
 
 // An optional string: byte 0, or byte 1 and the string.
-pub fn option_at(call: &[u8], at: Cursor, limit: usize, kind: StringKind) -> OptRead
-    ensures { λ r. ⌜ Reads (now (call .entry)) at (optional (stringBy kind limit)) (optPart (now (call .entry)) (r .text)) (r .next) × optWithin (now (call .entry)) limit (r .text) ⌝ }
+pub fn option_at(call: &[u8], at: Cursor, limit: usize, kind: StringKind) -> OptSpanRead
+    ensures { λ r. ⌜ Says (now (call .entry)) at (optional (stringBy kind limit)) optPart (λ s. optWithin s limit) (r .span) (r .next) ⌝ }
 {
     let b = choice_at(call, at, 0, 1);
     let next = b.next;
     if b.value == 0 {
-        return OptRead {
-            text: OptSpan::Absent,
+        return OptSpanRead {
+            span: OptSpan::Absent,
             next: next,
         };
     }
     let t = string_at(call, next, limit, kind);
-    let p = t.text;
+    let p = t.span;
     let end = t.next;
-    OptRead {
-        text: OptSpan::Present(p),
+    OptSpanRead {
+        span: OptSpan::Present(p),
         next: end,
     }
 }
 
-// The cause that a part of the call is, which starts at a place: its bytes are handed on.
+// The cause that a part of the call is; the part starts at a place of the call.
 fn read_cause(lent: &[u8], at: usize, next: Cursor) -> CauseRead
     requires { ⌜ at + length (now lent) < 2 ^ 64 ⌝ }
     ensures { λ r. ⌜ IsCause (now (lent .entry)) at next r ⌝ }
@@ -234,10 +232,10 @@ fn read_cause(lent: &[u8], at: usize, next: Cursor) -> CauseRead
 
 // A cause: a string in UTF-8, and the cause that it is.
 pub fn cause_at(call: &[u8], at: Cursor) -> CauseRead
-    ensures { λ r. ⌜ Reads (now (call .entry)) at causeText (causePart (now (call .entry)) (r .cause)) (r .next) × causeWithin (now (call .entry)) (r .cause) ⌝ }
+    ensures { λ r. ⌜ Says (now (call .entry)) at causeText causePart causeWithin (r .cause) (r .next) ⌝ }
 {
     let t = text_at(call, at, Record::CAUSE);
-    let p = t.text;
+    let p = t.span;
     let next = t.next;
-    read_cause(part_of(call, p), p.at, next)
+    read_cause(model::part(call, p), p.at, next)
 }

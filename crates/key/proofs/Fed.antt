@@ -1,4 +1,4 @@
--- Laws of what is fed to the hash: an object's strings. Assumes nothing.
+-- Laws of what is fed to the hash: an object's strings.
 use mathlib.Core.Path.{_≡_}
 use mathlib.Core.List.{[], _∷_, _++_, append-assoc, append-nil}
 use Prim.Native.Nat.{_+_, _-_}

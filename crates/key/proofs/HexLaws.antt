@@ -1,4 +1,4 @@
--- Laws of the digits as they are put into an answer. Assumes nothing.
+-- Laws of the digits as they are put into an answer.
 use mathlib.Core.Path.{_≡_, refl, ap, _∙_}
 use mathlib.Core.List.{[], _∷_}
 use Prim.Native.Nat.{ℕ, _+_, _*_, _/_, _%_, _≤_, _<_}

@@ -1,3 +1,3 @@
 pub mod HexLaws
 pub mod Fed
-pub mod HashedWidth
+pub mod Rooms

@@ -1,1 +1,1 @@
-pub mod HashedWidth
+pub mod Hashed

@@ -1,14 +1,22 @@
--- The kinds of affected object that are two strings, and those that are one.
+-- An affected object that is read; the kinds that are two strings, and those that are one.
 use Prim.Native.Nat.{ℕ}
 use mathlib.Core.Path.{_≡_}
 use mathlib.Core.Bool.{cond}
 use lib.Dec.{eqb}
 use Rattle.octets.specs.Bytes.{Bytes}
 use Rattle.definition.specs.Limits.{shortLimit}
+use Rattle.definition.specs.Reader.{Reader}
 use Rattle.definition.specs.Value.{ObjectValue}
 use Rattle.model.specs.Meaning.{part, objectValue, within, objectWithin}
 use Rattle.model.specs.declared.Span.{Span}
 use Rattle.model.specs.declared.AffectedObject.{AffectedObject}
+use Rattle.fields.specs.declared.Cursor.{Cursor}
+use Rattle.fields.specs.Cursor.{Says}
+use Rattle.key_fields.specs.declared.ObjectRead.{ObjectRead}
+
+-- what is read on from a place: the object that the answer means, its strings within their limit
+abbrev pub SaysObject : Bytes → Cursor → Reader ObjectValue → ObjectRead → Type 0
+SaysObject call at r answer = Says call at r objectValue objectWithin (answer .object) (answer .next)
 
 abbrev pub pairKind : ℕ → Bytes → Bytes → ObjectValue
 pairKind kind = cond (eqb kind 1) ObjectValue.nfInstance (cond (eqb kind 2) ObjectValue.interface ObjectValue.peer)

@@ -1,4 +1,8 @@
-// The affected object of a call, and the fields that a raise and a clear share.
+// The fields that a raise and a clear share, and that the key is made of: the cause, the affected object, tenant, slice and region.
+//
+// `key_at` reads them all. An object is a byte, its kind, and then the strings of that kind: kinds 1 to 3 have two and kinds 5 to 7 one,
+// so there is one reader for each of these groups, and a function that makes the object of a kind from its strings. specs/Kinds.antt says
+// which object that is. Places are tenant, slice and region, each optional; that a raise's region must not be empty is raise_fields' rule.
 use fields::Cursor;
 use fields::StringKind;
 use model::AffectedObject;
@@ -11,9 +15,9 @@ ghost use Rattle.octets.specs.Bytes.{Bytes};
 ghost use Rattle.definition.specs.Limits.{shortLimit};
 ghost use Rattle.definition.specs.Reader.{into, text};
 ghost use Rattle.definition.specs.Parse.{pair, sessionStore, dataPlaneQueue, objectOf, object, places, key};
-ghost use Rattle.model.specs.Meaning.{objectValue, placesValue, keyValue, objectWithin, PlacesWithin, KeyWithin};
-ghost use Rattle.fields.specs.Cursor.{Reads};
-ghost use Rattle.key_fields.specs.Kinds.{pairKind, IsPair, singleKind, IsSingle};
+ghost use Rattle.model.specs.Meaning.{placesValue, keyValue, PlacesWithin, KeyWithin};
+ghost use Rattle.fields.specs.Cursor.{Says};
+ghost use Rattle.key_fields.specs.Kinds.{SaysObject, pairKind, IsPair, singleKind, IsSingle};
 
 // What a reader answers: a value, and where the reading stands after it.
 struct ObjectRead {
@@ -60,14 +64,14 @@ fn single_of(kind: u8, a: Span) -> AffectedObject
 
 // Kinds 1, 2 and 3: two strings.
 fn pair_at(call: &[u8], at: Cursor, kind: u8) -> ObjectRead
-    ensures { λ r. ⌜ Reads (now (call .entry)) at (pair (pairKind kind)) (objectValue (now (call .entry)) (r .object)) (r .next) × objectWithin (now (call .entry)) (r .object) ⌝ }
+    ensures { λ r. ⌜ SaysObject (now (call .entry)) at (pair (pairKind kind)) r ⌝ }
 {
     let a = fields::text_at(call, at, Record::SHORT);
     let at = a.next;
-    let a = a.text;
+    let a = a.span;
     let b = fields::text_at(call, at, Record::SHORT);
     let at = b.next;
-    let b = b.text;
+    let b = b.span;
     ObjectRead {
         object: pair_of(kind, a, b),
         next: at,
@@ -76,14 +80,14 @@ fn pair_at(call: &[u8], at: Cursor, kind: u8) -> ObjectRead
 
 // Kind 4: a string and the optional shard.
 fn session_store_at(call: &[u8], at: Cursor) -> ObjectRead
-    ensures { λ r. ⌜ Reads (now (call .entry)) at sessionStore (objectValue (now (call .entry)) (r .object)) (r .next) × objectWithin (now (call .entry)) (r .object) ⌝ }
+    ensures { λ r. ⌜ SaysObject (now (call .entry)) at sessionStore r ⌝ }
 {
     let nf = fields::text_at(call, at, Record::SHORT);
     let at = nf.next;
-    let nf = nf.text;
+    let nf = nf.span;
     let shard = fields::option_at(call, at, Record::SHORT, StringKind::Text);
     let at = shard.next;
-    let shard = shard.text;
+    let shard = shard.span;
     ObjectRead {
         object: AffectedObject::SessionStore {
             nf: nf,
@@ -95,11 +99,11 @@ fn session_store_at(call: &[u8], at: Cursor) -> ObjectRead
 
 // Kinds 5, 6 and 7: one string.
 fn single_at(call: &[u8], at: Cursor, kind: u8) -> ObjectRead
-    ensures { λ r. ⌜ Reads (now (call .entry)) at (into (singleKind kind) (text shortLimit)) (objectValue (now (call .entry)) (r .object)) (r .next) × objectWithin (now (call .entry)) (r .object) ⌝ }
+    ensures { λ r. ⌜ SaysObject (now (call .entry)) at (into (singleKind kind) (text shortLimit)) r ⌝ }
 {
     let a = fields::text_at(call, at, Record::SHORT);
     let at = a.next;
-    let a = a.text;
+    let a = a.span;
     ObjectRead {
         object: single_of(kind, a),
         next: at,
@@ -108,14 +112,14 @@ fn single_at(call: &[u8], at: Cursor, kind: u8) -> ObjectRead
 
 // Kind 8: two strings and the queue's number.
 fn data_plane_queue_at(call: &[u8], at: Cursor) -> ObjectRead
-    ensures { λ r. ⌜ Reads (now (call .entry)) at dataPlaneQueue (objectValue (now (call .entry)) (r .object)) (r .next) × objectWithin (now (call .entry)) (r .object) ⌝ }
+    ensures { λ r. ⌜ SaysObject (now (call .entry)) at dataPlaneQueue r ⌝ }
 {
     let nf = fields::text_at(call, at, Record::SHORT);
     let at = nf.next;
-    let nf = nf.text;
+    let nf = nf.span;
     let interface = fields::text_at(call, at, Record::SHORT);
     let at = interface.next;
-    let interface = interface.text;
+    let interface = interface.span;
     let queue = fields::number_at(call, at, 2);
     let at = queue.next;
     ObjectRead {
@@ -129,7 +133,7 @@ fn data_plane_queue_at(call: &[u8], at: Cursor) -> ObjectRead
 }
 
 fn strings_at(call: &[u8], at: Cursor, kind: u8) -> ObjectRead
-    ensures { λ r. ⌜ Reads (now (call .entry)) at (objectOf kind) (objectValue (now (call .entry)) (r .object)) (r .next) × objectWithin (now (call .entry)) (r .object) ⌝ }
+    ensures { λ r. ⌜ SaysObject (now (call .entry)) at (objectOf kind) r ⌝ }
 {
     match kind {
         1 => pair_at(call, at, 1),
@@ -146,7 +150,7 @@ fn strings_at(call: &[u8], at: Cursor, kind: u8) -> ObjectRead
 // ---- objects, places and keys
 
 fn object_at(call: &[u8], at: Cursor) -> ObjectRead
-    ensures { λ r. ⌜ Reads (now (call .entry)) at object (objectValue (now (call .entry)) (r .object)) (r .next) × objectWithin (now (call .entry)) (r .object) ⌝ }
+    ensures { λ r. ⌜ SaysObject (now (call .entry)) at object r ⌝ }
 {
     let kind = fields::choice_at(call, at, 1, 8);
     let at = kind.next;
@@ -155,17 +159,17 @@ fn object_at(call: &[u8], at: Cursor) -> ObjectRead
 
 // Tenant, slice and region, each optional.
 fn places_at(call: &[u8], at: Cursor) -> PlacesRead
-    ensures { λ r. ⌜ Reads (now (call .entry)) at places (placesValue (now (call .entry)) (r .places)) (r .next) × PlacesWithin (now (call .entry)) (r .places) ⌝ }
+    ensures { λ r. ⌜ Says (now (call .entry)) at places placesValue PlacesWithin (r .places) (r .next) ⌝ }
 {
     let tenant = fields::option_at(call, at, Record::SHORT, StringKind::Text);
     let at = tenant.next;
-    let tenant = tenant.text;
+    let tenant = tenant.span;
     let slice = fields::option_at(call, at, Record::SHORT, StringKind::Text);
     let at = slice.next;
-    let slice = slice.text;
+    let slice = slice.span;
     let region = fields::option_at(call, at, Record::REGION, StringKind::Text);
     let at = region.next;
-    let region = region.text;
+    let region = region.span;
     PlacesRead {
         places: Places {
             tenant: tenant,
@@ -178,7 +182,7 @@ fn places_at(call: &[u8], at: Cursor) -> PlacesRead
 
 // What a raise and a clear share: the cause, the object and its places.
 pub fn key_at(call: &[u8], at: Cursor) -> KeyRead
-    ensures { λ r. ⌜ Reads (now (call .entry)) at key (keyValue (now (call .entry)) (r .key)) (r .next) × KeyWithin (now (call .entry)) (r .key) ⌝ }
+    ensures { λ r. ⌜ Says (now (call .entry)) at key keyValue KeyWithin (r .key) (r .next) ⌝ }
 {
     let cause = fields::cause_at(call, at);
     let at = cause.next;

@@ -1,5 +1,9 @@
 // Prints keys in hex, one to a line: of objects of all eight kinds, with and without options, and of all cause names.
-// The expected output, the file `stdout`, is made by another program, in Python: `python3 tests/vectors/key.py`.
+//
+// `key_of` is proved to give the definition's key; this program is the witness that another reading of document 01, with another SHA-256,
+// gives the same. The expected output, the file `stdout`, is made by it: `python3 tests/vectors/key.py`. Strings are parts of 256 letters,
+// empty, short and as long as their limits allow, so that the buffer of what is hashed is filled as far as it can be.
+// specs/Vectors.antt says what the fields handed about keep to.
 use libc::STDOUT_FILENO;
 use model::AffectedObject;
 use model::CauseSpan;
@@ -8,10 +12,9 @@ use model::OptSpan;
 use model::Places;
 use model::Span;
 ghost use mathlib.Core.Path.{_≡_};
-ghost use Prim.Native.Nat.{_≤_};
 ghost use lib.ListN.{length};
-ghost use Rattle.definition.specs.Limits.{shortLimit, regionLimit};
-ghost use Rattle.model.specs.Meaning.{optWithin, causeWithin, objectWithin, PlacesWithin};
+ghost use Rattle.model.specs.Meaning.{objectWithin};
+ghost use Rattle.key_vectors.specs.Vectors.{Fit};
 
 // The letters a to z, over and over.
 fn letters() -> [u8; 256] {
@@ -26,7 +29,7 @@ fn letters() -> [u8; 256] {
 
 // The key of a type of n bytes with these fields.
 fn show(call: &[u8], n: usize, cause: CauseSpan, object: AffectedObject, places: Places)
-    requires { ⌜ (length (now call) ≡ 256) × (n ≤ 64) × causeWithin (now call) cause × objectWithin (now call) object × PlacesWithin (now call) places ⌝ }
+    requires { ⌜ Fit (now call) n cause places × objectWithin (now call) object ⌝ }
 {
     let t = Span { at: 130, len: n };
     let fields = KeyFields {
@@ -42,7 +45,7 @@ fn show(call: &[u8], n: usize, cause: CauseSpan, object: AffectedObject, places:
 
 // Kinds 1 to 4, with strings of n bytes; kind 4 without a shard and with one.
 fn first_kinds(call: &[u8], n: usize, cause: CauseSpan, places: Places)
-    requires { ⌜ (length (now call) ≡ 256) × (n ≤ 64) × causeWithin (now call) cause × PlacesWithin (now call) places ⌝ }
+    requires { ⌜ Fit (now call) n cause places ⌝ }
 {
     let nf = Span { at: 3, len: n };
     let name = Span { at: 70, len: n };
@@ -65,7 +68,7 @@ fn first_kinds(call: &[u8], n: usize, cause: CauseSpan, places: Places)
 
 // Kinds 5 to 8.
 fn last_kinds(call: &[u8], n: usize, queue: u16, cause: CauseSpan, places: Places)
-    requires { ⌜ (length (now call) ≡ 256) × (n ≤ 64) × causeWithin (now call) cause × PlacesWithin (now call) places ⌝ }
+    requires { ⌜ Fit (now call) n cause places ⌝ }
 {
     let nf = Span { at: 3, len: n };
     let interface = Span { at: 70, len: n };
@@ -93,7 +96,7 @@ fn kinds(
     slice: OptSpan,
     region: OptSpan,
 )
-    requires { ⌜ (length (now call) ≡ 256) × (n ≤ 64) × causeWithin (now call) cause × optWithin (now call) shortLimit tenant × optWithin (now call) shortLimit slice × optWithin (now call) regionLimit region ⌝ }
+    requires { ⌜ Fit (now call) n cause (record { tenant = tenant; slice = slice; region = region }) ⌝ }
 {
     let places = Places {
         tenant,

@@ -3,8 +3,11 @@ use mathlib.Core.Bool.{Bool, true}
 use lib.Dec.{ltb}
 use Rattle.octets.specs.Bytes.{Bytes}
 use Rattle.definition.specs.Limits.{shortLimit, textLimit, detailsLimit}
+use Rattle.definition.specs.Reader.{Reader}
+use Rattle.definition.specs.Parse.{raiseBody}
 use Rattle.definition.specs.Value.{RaiseHeadValue, RaiseValue, ClearValue}
 use Rattle.model.specs.Meaning.{part, optPart, keyValue, within, optWithin, KeyWithin}
+use Rattle.model.specs.declared.KeyFields.{KeyFields}
 use Rattle.model.specs.declared.OptSpan.{OptSpan}
 use Rattle.model.specs.declared.OptSpan.the-variants.{Absent, Present}
 use Rattle.raise_fields.specs.declared.RaiseHead.{RaiseHead}
@@ -22,6 +25,10 @@ raiseValue call r =
 
 abbrev pub clearValue : Bytes → Clear → ClearValue
 clearValue call r = record { time = r .time; type = part call (r .«alarm_type»); key = keyValue call (r .key) }
+
+-- what a raise has behind its head and its key
+abbrev pub bodyBehind : Bytes → RaiseHead → KeyFields → Reader RaiseValue
+bodyBehind call h k = raiseBody (headValue call h) (keyValue call k)
 
 -- a region that is there has a byte
 abbrev pub namedSpan : OptSpan → Bool

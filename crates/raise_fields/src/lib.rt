@@ -1,4 +1,9 @@
-// A raise and a clear: their fields, read to numbers, and to places and lengths of strings.
+// The fields of a raise and of a clear: operations 1 and 2.
+//
+// Both name an alarm by its type and the fields of `key_fields`; a raise has more before them, its head, and behind them, the text and
+// the details. It has one rule of its own: a region that is there and has no byte is refused with 29, before the text is read.
+// specs/Meaning.antt says which value of the definition each struct means, and within which limits its spans lie: who puts them into a
+// record relies on these.
 use fields::Cursor;
 use fields::StringKind;
 use model::KeyFields;
@@ -6,10 +11,10 @@ use model::OptSpan;
 use model::Record;
 use model::Span;
 ghost use mathlib.Core.Path.{_≡_};
-ghost use Rattle.definition.specs.Parse.{raiseHead, raiseBody, raiseFields, clearFields};
-ghost use Rattle.model.specs.Meaning.{keyValue, KeyWithin};
-ghost use Rattle.fields.specs.Cursor.{Reads};
-ghost use Rattle.raise_fields.specs.Meaning.{headValue, raiseValue, clearValue, namedSpan, HeadWithin, RaiseWithin, ClearWithin};
+ghost use Rattle.definition.specs.Parse.{raiseHead, raiseFields, clearFields};
+ghost use Rattle.model.specs.Meaning.{KeyWithin};
+ghost use Rattle.fields.specs.Cursor.{Says};
+ghost use Rattle.raise_fields.specs.Meaning.{headValue, raiseValue, clearValue, bodyBehind, namedSpan, HeadWithin, RaiseWithin, ClearWithin};
 
 // How a raise begins.
 pub struct RaiseHead {
@@ -51,16 +56,16 @@ pub struct ClearRead {
 // ---- raise
 
 fn head_at(call: &[u8], at: Cursor) -> HeadRead
-    ensures { λ r. ⌜ Reads (now (call .entry)) at raiseHead (headValue (now (call .entry)) (r .head)) (r .next) × HeadWithin (now (call .entry)) (r .head) ⌝ }
+    ensures { λ r. ⌜ Says (now (call .entry)) at raiseHead headValue HeadWithin (r .head) (r .next) ⌝ }
 {
     let time = fields::number_at(call, at, 8);
     let at = time.next;
     let id = fields::text_at(call, at, Record::SHORT);
     let at = id.next;
-    let id = id.text;
+    let id = id.span;
     let alarm_type = fields::text_at(call, at, Record::SHORT);
     let at = alarm_type.next;
-    let alarm_type = alarm_type.text;
+    let alarm_type = alarm_type.span;
     let severity = fields::choice_at(call, at, 0, 5);
     let at = severity.next;
     HeadRead {
@@ -87,14 +92,14 @@ fn is_named(region: OptSpan) -> bool
 // The text and the details, after the key.
 fn body_at(call: &[u8], at: Cursor, head: RaiseHead, key: KeyFields) -> RaiseRead
     requires { ⌜ HeadWithin (now call) head × KeyWithin (now call) key ⌝ }
-    ensures { λ r. ⌜ Reads (now (call .entry)) at (raiseBody (headValue (now (call .entry)) head) (keyValue (now (call .entry)) key)) (raiseValue (now (call .entry)) (r .raise)) (r .next) × RaiseWithin (now (call .entry)) (r .raise) ⌝ }
+    ensures { λ r. ⌜ Says (now (call .entry)) at (bodyBehind (now (call .entry)) head key) raiseValue RaiseWithin (r .raise) (r .next) ⌝ }
 {
     let text = fields::text_at(call, at, Record::TEXT);
     let at = text.next;
-    let text = text.text;
+    let text = text.span;
     let details = fields::option_at(call, at, Record::DETAILS, StringKind::Blob);
     let at = details.next;
-    let details = details.text;
+    let details = details.span;
     RaiseRead {
         raise: Raise {
             head: head,
@@ -108,7 +113,7 @@ fn body_at(call: &[u8], at: Cursor, head: RaiseHead, key: KeyFields) -> RaiseRea
 
 // The fields of a raise.
 pub fn raise_at(call: &[u8], at: Cursor) -> RaiseRead
-    ensures { λ r. ⌜ Reads (now (call .entry)) at raiseFields (raiseValue (now (call .entry)) (r .raise)) (r .next) × RaiseWithin (now (call .entry)) (r .raise) ⌝ }
+    ensures { λ r. ⌜ Says (now (call .entry)) at raiseFields raiseValue RaiseWithin (r .raise) (r .next) ⌝ }
 {
     let head = head_at(call, at);
     let at = head.next;
@@ -126,13 +131,13 @@ pub fn raise_at(call: &[u8], at: Cursor) -> RaiseRead
 
 // The fields of a clear.
 pub fn clear_at(call: &[u8], at: Cursor) -> ClearRead
-    ensures { λ r. ⌜ Reads (now (call .entry)) at clearFields (clearValue (now (call .entry)) (r .clear)) (r .next) × ClearWithin (now (call .entry)) (r .clear) ⌝ }
+    ensures { λ r. ⌜ Says (now (call .entry)) at clearFields clearValue ClearWithin (r .clear) (r .next) ⌝ }
 {
     let time = fields::number_at(call, at, 8);
     let at = time.next;
     let alarm_type = fields::text_at(call, at, Record::SHORT);
     let at = alarm_type.next;
-    let alarm_type = alarm_type.text;
+    let alarm_type = alarm_type.span;
     let key = key_fields::key_at(call, at);
     let at = key.next;
     let key = key.key;

@@ -1,15 +1,17 @@
--- Laws of a cause's stored form: how long it is, and that it is the one of the variant that the code has met. Assumes nothing.
-use mathlib.Core.Path.{_≡_, sym, ap, subst}
-use mathlib.Core.List.{[]}
+-- Laws of a cause's stored form: how long it is, how it is put, and that it is the one of the variant that the code has met.
+use mathlib.Core.Path.{_≡_, sym, ap, subst, _∙_}
+use mathlib.Core.List.{[], _++_}
 use Prim.Native.Nat.{ℕ, _+_, _-_, _≤_, _<_}
 use native.Mathlib.Omega.{arith}
-use lib.ListN.{length, getD}
+use lib.ListN.{length, getD, length-append}
 use lib.Dec.{leb, leb→le}
-use Rattle.octets.specs.Bytes.{Bytes, splice}
+use Rattle.octets.specs.Bytes.{Bytes, splice, be32}
+use Rattle.octets.specs.NumberLaws.{length-be32}
+use Rattle.octets.specs.SpliceLaws.{length-splice}
 use Rattle.octets.specs.RangeLaws.{on-range}
 use Rattle.octets.specs.Put.{Put}
-use Rattle.octets.specs.PutLaws.{put-as}
-use Rattle.definition.specs.Cause.{names}
+use Rattle.octets.specs.PutLaws.{put-as, put-two}
+use Rattle.definition.specs.Cause.{names, other}
 use Rattle.definition.specs.Key.{string}
 use Rattle.model.specs.declared.CauseSpan.{CauseSpan}
 use Rattle.model.specs.Meaning.{causePart, causeWithin}
@@ -20,6 +22,19 @@ name-length k h = leb→le _ _ (on-range (λ (m : ℕ). leb (length (getD names 
 -- a name in the array that it was put into
 pub name-put : (b c : Bytes) (k r : ℕ) → k < 21 → length b ≡ 28 → r ≡ 0 + length (getD names k []) → c ≡ splice b 0 (getD names k []) → Put b 0 (getD names k []) r c
 name-put b c k r h l n e = record { next = n; fits = omega (arith, name-length k h); bytes = e }
+
+-- a length, `other:`, and a name behind it
+pub other-put :
+    {b c d e : Bytes} {at n : ℕ} (name : Bytes) → length name ≡ n → at + (10 + n) ≤ length b →
+    c ≡ splice b at (be32 (6 + n)) → d ≡ splice c (at + 4) other → e ≡ splice d (at + 10) name → Put b at (string (other ++ name)) (at + 10 + n) e
+other-put {b} {c} {d} {e} {at} {n} name l h p q r =
+    let l4 = length-be32 (6 + n) in
+    let lc : length c ≡ length b = ap length p ∙ length-splice b at (be32 (6 + n)) (omega arith) in
+    let ld : length d ≡ length b = ap length q ∙ length-splice c (at + 4) other (omega arith) ∙ lc in
+    let whole : 6 + n ≡ length (other ++ name) = omega (arith, length-append other name) in
+    put-as (ap (λ (k : ℕ). be32 k ++ (other ++ name)) whole)
+    (put-two (record { next = omega arith; fits = omega arith; bytes = p })
+    (put-two (record { next = omega arith; fits = omega arith; bytes = q }) (record { next = omega arith; fits = omega arith; bytes = r })))
 
 pub cause-case : (call : Bytes) {c d : CauseSpan} → c ≡ d → causeWithin call c → causeWithin call d
 cause-case call e w = subst (λ (x : CauseSpan). causeWithin call x) e w

@@ -1,4 +1,8 @@
-// Strings as in a call, their length before their bytes, put into a slice. Each function returns the place behind what it put.
+// Strings and causes put into a slice as a call has them: their length, and then their bytes.
+//
+// What is hashed for a key and what answers hold are made of such strings, one behind the other: each function returns the place behind
+// what it put, and promises by `Put` (octets) that it changed no other byte. A cause is put in its stored form: one of the 21 names, or
+// `other:` and the trimmed name, which the parser left in the call. A call's limits bound all lengths; who calls sees to the room.
 use model::CauseSpan;
 use model::Span;
 ghost use mathlib.Core.List.{[], _++_};
@@ -35,17 +39,15 @@ fn put_name(buf: &mut [u8], at: usize, k: usize) -> usize
 
 // `other:` and the trimmed name.
 fn put_other(buf: &mut [u8], at: usize, call: &[u8], p: Span) -> usize
-    requires { ⌜ (at + (4 + causeLimit) ≤ length (now buf)) × (p .at + p .len ≤ length (now call)) × (6 + p .len ≤ causeLimit) ⌝ }
+    requires { ⌜ (at + (4 + causeLimit) ≤ length (now buf)) × causeWithin (now call) (CauseSpan.Other p) ⌝ }
     ensures { λ r. ⌜ Put (now (buf .entry)) at (string (other ++ part (now (call .entry)) p)) r (now (buf .exit)) ⌝ }
 {
     let n = p.len;
-    let a = p.at;
-    let e = a + n;
     octets::put32(buf, at, (6 + n) as u32);
     let mark = at + 4;
     octets::put_bytes(buf, mark, b"other:");
     let name = at + 10;
-    octets::put_bytes(buf, name, &call[a..e]);
+    octets::put_bytes(buf, name, model::part(call, p));
     name + n
 }
 

@@ -11,7 +11,7 @@ returns c =
     let actor = c .before .before .before .before .before .actor-at .ensures in
     let request = c .before .before .before .request-at .ensures in
     let verdict = c .before .verdict-at .ensures in
-    (step _ (actor .0) (step _ (request .0) (step _ (verdict .0) done)), record { actor = actor .1; request = request .1; denial = verdict .1 })
+    (step _ (actor .0) (step _ (request .0) (step _ (verdict .0) done)), record { actor = actor .1; request = request .1; verdict = verdict .1 })
 
 pub policy-at-spec : {M : Type 1} → statement M
 policy-at-spec = tie.close (tie.spec (λ c κs. search needs) (λ c κs. search needs) (λ c κs. search needs) returns)

@@ -11,15 +11,15 @@ number-requires : tie.Need-number-requires
 number-requires c κs =
     let a = c .before .before .before .before .args in
     let b = c .before .before .bytes-at in
-    rw (c .part-of .ensures) (le-trans (part-small (a .call .now) (b .result .text) (a .at) (a .n) (b .ensures .1)) (c .before .before .before .before .pre))
+    rw (c .part .ensures) (le-trans (part-small (a .call .now) (b .result .span) (a .at) (a .n) (b .ensures .1)) (c .before .before .before .before .pre))
 
 returns : tie.Need-returns
 unfolding number
 returns c =
     let a = c .before .before .before .before .before .args in
     let b = c .before .before .before .bytes-at in
-    let v = rw (c .before .part-of .ensures) at (c .number .ensures) in
-    (rw (v .0) (step _ (b .ensures .0) done), below-power (part-small (a .call .now) (b .result .text) (a .at) (a .n) (b .ensures .1)) (v .1))
+    let v = rw (c .before .part .ensures) at (c .number .ensures) in
+    (rw (v .0) (step _ (b .ensures .0) done), below-power (part-small (a .call .now) (b .result .span) (a .at) (a .n) (b .ensures .1)) (v .1))
 
 pub number-at-spec : {M : Type 1} → statement M
 number-at-spec = tie.close (tie.spec (λ c κs. search needs) (λ c κs. search needs) number-requires returns)

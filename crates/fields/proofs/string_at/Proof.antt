@@ -9,7 +9,7 @@ returns : tie.Need-returns
 returns c =
     let a = c .before .before .before .before .before .before .args in
     let b = c .before .before .before .before .blob-at .ensures in
-    (rw (c .refuse-unless .ensures, c .before .obeys .ensures, c .before .before .part-of .ensures) (ruled (a .kind) (a .limit) (step _ (b .0) (tested _ _ done))), b .1)
+    (rw (c .refuse-unless .ensures, c .before .obeys .ensures, c .before .before .part .ensures) (ruled (a .kind) (a .limit) (step _ (b .0) (tested _ _ done))), b .1)
 
 pub string-at-spec : {M : Type 1} → statement M
 string-at-spec =

@@ -2,13 +2,13 @@
 use mathlib.Core.Path.{refl}
 use Rattle.octets.specs.PutLaws.{put-two, put-as}
 use Rattle.model.specs.CaseLaws.{option-case}
-use Rattle.key.proofs.HashedWidth.{option-fed}
+use Rattle.key.proofs.Rooms.{option-fed}
 use borrow.Author.Needs.{needs}
 use Rattle.key.proofs.put_option.Statement.{statement}
 use Rattle.key.proofs.put_option.Tie as tie
 
 put-part-requires : tie.Need-put-part-requires
-put-part-requires c κs = (search needs, search needs, option-case _ _ (c .before .before .before .before .before .before .p .given .1) (c .before .before .before .before .before .before .before .before .before .before .pre .2))
+put-part-requires c κs = (search needs, option-case _ _ (c .before .before .before .before .before .before .p .given .1) (c .before .before .before .before .before .before .before .before .before .before .pre .1))
 
 returns : tie.Need-returns
 returns c =

@@ -2,15 +2,16 @@
 use native.Mathlib.Omega.{arith}
 use Rattle.definition.specs.Laws.Text.Key.{length-string}
 use Rattle.octets.specs.PutLaws.{put-two}
-use Rattle.key.proofs.HashedWidth.{wider}
+use Rattle.key.proofs.Rooms.{wider}
 use borrow.Author.Needs.{needs}
 use Rattle.key.proofs.put_single.Statement.{statement}
 use Rattle.key.proofs.put_single.Tie as tie
 
 put-part-requires : tie.Need-put-part-requires
 put-part-requires c κs =
-    let s = c .before .before .before .before .before .before .before .before .args in
-    (search needs, omega (arith, length-string (s .tag .now)), wider (s .call .now) (s .a) (c .before .before .before .before .before .before .before .before .pre .3))
+    let s = c .before .before .before .before .before .before .before .before in
+    let l = length-string (s .args .tag .now) in
+    ((search needs, omega arith), wider (s .args .call .now) _ (s .pre .2))
 
 returns : tie.Need-returns
 returns c = put-two (c .before .before .before .before .before .before .put-string .ensures) (c .before .before .put-part .ensures)

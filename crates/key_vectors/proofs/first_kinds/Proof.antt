@@ -4,10 +4,10 @@ use Rattle.key_vectors.proofs.first_kinds.Statement.{statement}
 use Rattle.key_vectors.proofs.first_kinds.Tie as tie
 
 show-requires-4 : tie.Need-show-requires-4
-show-requires-4 c κs = (search needs, search needs, search needs, (search needs, tt), search needs)
+show-requires-4 c κs = (search needs, (search needs, tt))
 
 show-requires-5 : tie.Need-show-requires-5
-show-requires-5 c κs = (search needs, search needs, search needs, (search needs, search needs), search needs)
+show-requires-5 c κs = (search needs, (search needs, search needs))
 
 pub first-kinds-spec : {M : Type 1} → statement M
 first-kinds-spec =

@@ -8,9 +8,7 @@ put-name-requires : tie.Need-put-name-requires
 put-name-requires c κs = (search needs, cause-case _ (c .before .before .c .given .1) (c .before .before .before .before .before .before .pre .1))
 
 put-other-requires : tie.Need-put-other-requires
-put-other-requires c κs =
-    let w = cause-case _ (c .before .before .c2 .given .1) (c .before .before .before .before .before .before .pre .1) in
-    (search needs, w .0, w .1)
+put-other-requires c κs = (search needs, cause-case _ (c .before .before .c2 .given .1) (c .before .before .before .before .before .before .pre .1))
 
 returns : tie.Need-returns
 returns c = cause-put _ (c .before .before .before .before .before .c .given .1) (c .before .before .put-name .ensures)

@@ -1,5 +1,5 @@
--- Laws of the room that each field takes in the buffer, and of the variant that the code has met. Assumes nothing.
-use mathlib.Core.Path.{_≡_, sym, ap}
+-- Laws of the room that each field takes in the buffer, and of the variant that the code has met.
+use mathlib.Core.Path.{_≡_, sym, ap, _∙_}
 use mathlib.Core.List.{[], _∷_, _++_}
 use Prim.Native.Nat.{ℕ, _+_, _≤_, _<_}
 use native.Mathlib.Omega.{arith}
@@ -7,6 +7,8 @@ use lib.ListN.{length, drop, getD, length-take, length-append}
 use lib.Dec.{leb, leb→le, lit≤}
 use Rattle.octets.specs.Bytes.{Bytes, ascii}
 use Rattle.octets.specs.RangeLaws.{on-range}
+use Rattle.octets.specs.Put.{Put}
+use Rattle.octets.specs.PutLaws.{put-as}
 use Rattle.definition.specs.Limits.{shortLimit, causeLimit, regionLimit}
 use Rattle.definition.specs.Cause.{names, other}
 use Rattle.definition.specs.Key.{string, optional, strings, decimal, parts, fedObject}
@@ -19,6 +21,7 @@ use Rattle.model.specs.declared.Span.{Span}
 use Rattle.model.specs.declared.OptSpan.{OptSpan}
 use Rattle.model.specs.declared.OptSpan.the-variants.{Absent, Present}
 use Rattle.model.specs.Meaning.{part, optPart, causePart, objectValue, within, optWithin, causeWithin, objectWithin}
+use Rattle.key.specs.Hashed.{PutObject}
 use Rattle.key.proofs.Fed.{single-fed, shard-fed, pair-fed, queue-fed}
 
 pub short-name : (k : ℕ) → k < 21 → length (getD names k []) ≤ causeLimit
@@ -57,8 +60,9 @@ module _ (call : Bytes) where
   option-wider Absent w = tt
   option-wider (Present p) w = wider p w
 
-  pub fed-case : {o p : AffectedObject} → o ≡ p → fedObject (objectValue call p) ≡ fedObject (objectValue call o)
-  fed-case e = ap (λ (x : AffectedObject). fedObject (objectValue call x)) (sym e)
+  -- what was put for the variant that the code has met was put for the object
+  pub met : {b c u : Bytes} {at r : ℕ} {o p : AffectedObject} → o ≡ p → u ≡ fedObject (objectValue call p) → Put b at u r c → PutObject b at call o r c
+  met e f p = put-as (f ∙ ap (λ (x : AffectedObject). fedObject (objectValue call x)) (sym e)) p
 
   pub option-fed : {p q : OptSpan} → p ≡ q → optional (optPart call q) ≡ optional (optPart call p)
   option-fed e = ap (λ (x : OptSpan). optional (optPart call x)) (sym e)
