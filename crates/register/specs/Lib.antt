@@ -1,2 +1,4 @@
 pub mod Search
+pub mod Walk
+pub mod WalkLaws
 pub mod SearchLaws
