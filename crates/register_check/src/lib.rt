@@ -1,13 +1,14 @@
 // Whether bytes are a sound register, and where its chains end. One pass: each chain is walked once for as many records as the header says.
 ghost use mathlib.Core.Path.{_≡_};
-ghost use Prim.Native.Nat.{_+_, _*_, _≤_};
+ghost use Prim.Native.Nat.{_+_, _*_, _≤_, _<_};
 ghost use lib.ListN.{length};
+ghost use Rattle.octets.specs.Bytes.{at32};
 ghost use Rattle.definition.specs.Limits.{recordWidth};
 ghost use Rattle.definition.specs.Book.{payloadWidth};
-ghost use Rattle.definition.specs.Contracts.LegalBook.{Limit};
 ghost use Rattle.definition.specs.Contracts.Check.{Decides, Counts, Apart};
 ghost use Rattle.record_check.specs.Ruler.{rulerBytes};
-ghost use Rattle.register_check.specs.Meaning.{Chain, Gives, Headed, Heads, Linked, Walks, holds, number};
+ghost use Rattle.register_check.specs.Meaning.{Chain, Gives, Headed, Heads, Linked, Walks, holds, number as numberOf};
+use model::HeaderAt;
 use model::Record;
 use register::Ends;
 
@@ -67,7 +68,7 @@ fn link_of(register: &[u8], capacity: u32, i: u32) -> u32
     if capacity < i {
         return 0;
     }
-    octets::get32(register, Record::WIDTH * (i as usize))
+    register::next(register, i)
 }
 
 // The way by links from `head` on: as many records as `count` says, each of 1 to `capacity` with a payload of its chain, and then 0. The link
@@ -88,10 +89,7 @@ fn walk(register: &[u8], capacity: u32, kind: Kind, head: u32, count: u32, ruler
             return Walked::Broken;
         }
         let link = link_of(register, capacity, next);
-        let start = Record::WIDTH * (at as usize);
-        let a = start + 4;
-        let e = start + Record::WIDTH;
-        if !payload_ok(kind, &register[a..e], ruler) {
+        if !payload_ok(kind, register::payload(register, at), ruler) {
             return Walked::Broken;
         }
         last = at;
@@ -105,72 +103,56 @@ fn walk(register: &[u8], capacity: u32, kind: Kind, head: u32, count: u32, ruler
     Walked::End(last)
 }
 
-// Where the header has a chain's head; the chain's length follows it.
-fn head_at(kind: Kind) -> usize
-    ensures { λ r. ⌜ (r ≡ 12 + 8 * number kind) × (r ≤ 36) ⌝ }
+// The chain's number.
+fn number(kind: Kind) -> usize
+    ensures { λ r. ⌜ (r ≡ numberOf kind) × (r < 4) ⌝ }
 {
     match kind {
-        Kind::Active => 12,
-        Kind::History => 20,
-        Kind::Audit => 28,
-        Kind::Free => 36,
+        Kind::Active => register::ACTIVE,
+        Kind::History => register::HISTORY,
+        Kind::Audit => register::AUDIT,
+        Kind::Free => register::FREE,
     }
+}
+
+// The length that the header says chain x has.
+fn length_at(register: &[u8], x: usize) -> u32
+    requires { ⌜ (recordWidth ≤ length (now register)) × (x < 4) ⌝ }
+    ensures { λ r. ⌜ r ≡ at32 (now (register .entry)) (16 + 8 * x) ⌝ }
+{
+    octets::get32(register, HeaderAt::HELD + HeaderAt::CHAIN * x)
 }
 
 fn chain(register: &[u8], capacity: u32, kind: Kind, ruler: &[u8]) -> Walked
     requires { ⌜ (length (now register) ≡ recordWidth * (capacity + 1)) × (now ruler ≡ rulerBytes) ⌝ }
     ensures { λ r. ⌜ Chain r kind (now (register .entry)) capacity ⌝ }
 {
-    let at = head_at(kind);
-    let head = octets::get32(register, at);
-    let count = octets::get32(register, at + 4);
+    let x = number(kind);
+    let head = octets::get32(register, HeaderAt::FIRST + HeaderAt::CHAIN * x);
+    let count = length_at(register, x);
     walk(register, capacity, kind, head, count, ruler)
 }
 
 // ---- the header
-
-fn limits_ok(a: u32, h: u32, e: u32) -> bool
-    ensures { λ r. ⌜ Decides r (Limit a × Limit h × Limit e) ⌝ }
-{
-    if a == 0 {
-        return false;
-    }
-    if 65535 < a {
-        return false;
-    }
-    if h == 0 {
-        return false;
-    }
-    if 65535 < h {
-        return false;
-    }
-    if e == 0 {
-        return false;
-    }
-    if 65535 < e {
-        return false;
-    }
-    true
-}
 
 // Whether the chains' lengths are within the limits, and make up their sum.
 fn counts_ok(register: &[u8], a: u32, h: u32, e: u32) -> bool
     requires { ⌜ (recordWidth ≤ length (now register)) × (a ≤ 65535) × (h ≤ 65535) × (e ≤ 65535) ⌝ }
     ensures { λ r. ⌜ Decides r (Counts (now (register .entry)) a h e) ⌝ }
 {
-    let active = octets::get32(register, 16);
+    let active = length_at(register, register::ACTIVE);
     if a < active {
         return false;
     }
-    let history = octets::get32(register, 24);
+    let history = length_at(register, register::HISTORY);
     if h < history {
         return false;
     }
-    let audit = octets::get32(register, 32);
+    let audit = length_at(register, register::AUDIT);
     if e < audit {
         return false;
     }
-    let free = octets::get32(register, 40);
+    let free = length_at(register, register::FREE);
     if free != (a - active) + (h - history) + (e - audit) {
         return false;
     }
@@ -184,10 +166,10 @@ fn header(register: &[u8]) -> HeaderVerdict
     if register.len() < Record::WIDTH {
         return HeaderVerdict::Wrong;
     }
-    let a = octets::get32(register, 0);
-    let h = octets::get32(register, 4);
-    let e = octets::get32(register, 8);
-    if !limits_ok(a, h, e) {
+    let a = octets::get32(register, HeaderAt::ACTIVE_LIMIT);
+    let h = octets::get32(register, HeaderAt::HISTORY_LIMIT);
+    let e = octets::get32(register, HeaderAt::AUDIT_LIMIT);
+    if !model::are_limits(a, h, e) {
         return HeaderVerdict::Wrong;
     }
     if !counts_ok(register, a, h, e) {
@@ -197,7 +179,7 @@ fn header(register: &[u8]) -> HeaderVerdict
     if register.len() != Record::WIDTH * (capacity as usize + 1) {
         return HeaderVerdict::Wrong;
     }
-    if !octets::is_blank(&register[60..Record::WIDTH]) {
+    if !octets::is_blank(&register[HeaderAt::SPARE..Record::WIDTH]) {
         return HeaderVerdict::Wrong;
     }
     HeaderVerdict::Capacity(capacity)
