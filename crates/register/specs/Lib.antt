@@ -1,3 +1,4 @@
+pub mod Meaning
 pub mod Search
 pub mod Walk
 pub mod WalkLaws

@@ -8,7 +8,7 @@ use lib.ListN.{length, take}
 use Rattle.octets.specs.Bytes.{Bytes}
 use Rattle.definition.specs.Alarm.{hasKey, hasId}
 use Rattle.definition.specs.Record.{readAlarm}
-use Rattle.definition.specs.Book.{Record}
+use Rattle.definition.specs.Book.{Record, readBook}
 use Rattle.register.specs.declared.By.{By}
 use Rattle.register.specs.declared.By.the-variants.{Key, Id}
 use Rattle.register.specs.declared.Found.{Found}
@@ -34,6 +34,10 @@ pub record Used (n m r : ℕ) : Type 0 where
 unfoldable pub firstIn : (Bytes → Bool) → ℕ → List Record → Found
 firstIn t q [] = Nowhere
 firstIn t q (e ∷ c) = cond (t (e .content)) (At (e .index) q) (firstIn t (e .index) c)
+
+-- that of the active chain
+abbrev pub firstActive : (Bytes → Bool) → Bytes → Found
+firstActive t b = firstIn t 0 (readBook b .active)
 
 -- what a search says of a chain: the index
 abbrev pub placeOf : Found → Option ℕ

@@ -22,7 +22,7 @@ use Rattle.definition.specs.Contracts.Moves.{prevOf, CanRelease}
 use Rattle.definition.specs.Contracts.LegalBook.{Sound, chain}
 use Rattle.register.specs.declared.Found.{Found}
 use Rattle.register.specs.declared.Found.the-variants.{At, Nowhere}
-use Rattle.register.specs.Search.{Used, firstIn, holdsKey, holdsId, placeOf}
+use Rattle.register.specs.Search.{Used, firstIn, firstActive, holdsKey, holdsId, placeOf}
 use Rattle.register.specs.Walk.{Progress}
 use Rattle.register.specs.WalkLaws.{progress-first, progress-end, progress-here, progress-fits, progress-next}
 
@@ -78,24 +78,24 @@ module _ (t : Bytes → Bool) (q : ℕ) where
 -- k of its n records are passed, and what is found on the rest is what is found on the whole; q is the record before `at`
 pub record Searching (t : Bytes → Bool) (b : Bytes) (n k at q : ℕ) : Type 0 where
   pub progress : Progress b 0 n k at
-  pub same : firstIn t q (drop k (readBook b .active)) ≡ firstIn t 0 (readBook b .active)
+  pub same : firstIn t q (drop k (readBook b .active)) ≡ firstActive t b
 
 module _ {t : Bytes → Bool} {b : Bytes} where
   pub search-start : {n at : ℕ} → T (sound b) → n ≡ at32 b 16 → at ≡ at32 b 12 → Searching t b n 0 at 0
   search-start h en e = record { progress = progress-first h (omega arith) en e; same = refl }
 
   module _ {n k at q : ℕ} (w : Searching t b n k at q) where
-    pub search-end : n ≤ k → Nowhere ≡ firstIn t 0 (readBook b .active)
+    pub search-end : n ≤ k → Nowhere ≡ firstActive t b
     search-end l = sym (first-none t q) ∙ ap (firstIn t q) (sym (progress-end (w .progress) l)) ∙ w .same
 
     module _ (l : k < n) where
       pub search-fits : 1536 * at + 1536 ≤ length b
       search-fits = progress-fits (w .progress) l
 
-      here : firstIn t q (recordOf b at ∷ drop (k + 1) (readBook b .active)) ≡ firstIn t 0 (readBook b .active)
+      here : firstIn t q (recordOf b at ∷ drop (k + 1) (readBook b .active)) ≡ firstActive t b
       here = ap (firstIn t q) (sym (progress-here (w .progress) l)) ∙ w .same
 
-      pub search-hit : t (recordOf b at .content) ≡ true → At at q ≡ firstIn t 0 (readBook b .active)
+      pub search-hit : t (recordOf b at .content) ≡ true → At at q ≡ firstActive t b
       search-hit y = sym (first-hit t q (recordOf b at) _ y) ∙ here
 
       pub search-miss : {r : ℕ} → t (recordOf b at .content) ≡ false → r ≡ at32 b (1536 * at) → Searching t b n (k + 1) r at

@@ -1,4 +1,12 @@
-// Whether bytes are a sound register, and where its chains end. One pass: each chain is walked once for as many records as the header says.
+// Whether bytes are a sound register, and where its chains end.
+//
+// "Each record on one chain" could be tested by marking records. The check makes one pass and marks none: it looks at the header's
+// numbers, and walks each chain once for as many records as the header says, testing their payloads on the way (record_check). Chains
+// that met would go on together and end in one record; so where the walks end, and in different records, no record is on two chains,
+// and as the lengths make up the capacity none is on no chain. The definition has this as a law (Contracts/Check.antt says what is
+// looked at, Laws/Book/CheckSound.antt and CheckComplete.antt that it comes to the same).
+//
+// The last records of the walks are the answer's `Ends`: operations add to the chains there, and need no walk of their own.
 ghost use mathlib.Core.Path.{_≡_};
 ghost use Prim.Native.Nat.{_+_, _*_, _≤_, _<_};
 ghost use lib.ListN.{length};
