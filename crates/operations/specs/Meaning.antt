@@ -3,7 +3,7 @@ use mathlib.Core.Path.{_≡_}
 use lib.Dec.{T}
 use Rattle.octets.specs.Bytes.{Bytes}
 use Rattle.definition.specs.Sound.{station, sound}
-use Rattle.definition.specs.Chain.{lastOf}
+use Rattle.definition.specs.Contracts.LegalBook.{lastOf}
 use Rattle.register_check.specs.declared.Lasts.{Lasts}
 
 -- a sound register, and the last record of each chain

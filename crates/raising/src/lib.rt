@@ -2,7 +2,8 @@
 ghost use mathlib.Core.Path.{_≡_};
 ghost use lib.Dec.{T};
 ghost use lib.ListN.{length};
-ghost use Rattle.definition.specs.Chain.{present, first, lastOf};
+ghost use Rattle.definition.specs.Contracts.LegalBook.{lastOf};
+ghost use Rattle.definition.specs.Chain.{present, first};
 ghost use Rattle.definition.specs.Alarm.{hasId};
 ghost use Rattle.definition.specs.Limits.{shortLimit};
 ghost use Rattle.definition.specs.Sound.{station, sound};

@@ -13,7 +13,7 @@ ghost use lib.ListN.{length};
 ghost use Rattle.octets.specs.Bytes.{at32};
 ghost use Rattle.definition.specs.Limits.{recordWidth};
 ghost use Rattle.definition.specs.Book.{payloadWidth};
-ghost use Rattle.definition.specs.Contracts.Check.{Decides, Counts, Apart};
+ghost use Rattle.definition.specs.Contracts.Check.{Decides, Lengths, Apart};
 ghost use Rattle.record_check.specs.Ruler.{rulerBytes};
 ghost use Rattle.register_check.specs.Meaning.{Chain, Gives, Headed, Heads, Linked, Walks, holds, number as numberOf};
 use model::HeaderAt;
@@ -146,7 +146,7 @@ fn chain(register: &[u8], capacity: u32, kind: Kind, ruler: &[u8]) -> Walked
 // Whether the chains' lengths are within the limits, and make up their sum.
 fn counts_ok(register: &[u8], a: u32, h: u32, e: u32) -> bool
     requires { ⌜ (recordWidth ≤ length (now register)) × (a ≤ 65535) × (h ≤ 65535) × (e ≤ 65535) ⌝ }
-    ensures { λ r. ⌜ Decides r (Counts (now (register .entry)) a h e) ⌝ }
+    ensures { λ r. ⌜ Decides r (Lengths (now (register .entry)) a h e) ⌝ }
 {
     let active = length_at(register, register::ACTIVE);
     if a < active {

@@ -8,7 +8,7 @@ use denote.Ref.{now}
 use Rattle.octets.specs.Bytes.{Bytes, zeros, at32}
 use Rattle.definition.specs.Laws.Book.CheckParts.{confirms, refutes, capacity-read, numbers-of, size-of}
 use Rattle.definition.specs.Contracts.LegalBook.{Limit}
-use Rattle.definition.specs.Contracts.Check.{Decides, Counts}
+use Rattle.definition.specs.Contracts.Check.{Decides, Lengths}
 use Rattle.register_check.specs.JudgeLaws.{limits-decide, tail-decides}
 use borrow.Author.Needs.{needs}
 use Rattle.register_check.proofs.header.Statement.{statement}
@@ -36,8 +36,8 @@ of-header c P p = let g = limits-read c in subst₃ P (g .before .before .get32 
 limits : (c : tie.After-are-limits) → let b = bytes c in Decides (c .are-limits .result) (Limit (at32 b 0) × Limit (at32 b 4) × Limit (at32 b 8))
 limits c = of-header c (λ (x y z : ℕ). Decides (c .are-limits .result) (Limit x × Limit y × Limit z)) (limits-decide _ _ _ _ (c .are-limits .ensures))
 
-counts : (c : tie.After-counts-ok) → let b = bytes (limited c) in Decides (c .counts-ok .result) (Counts b (at32 b 0) (at32 b 4) (at32 b 8))
-counts c = of-header (limited c) (λ (x y z : ℕ). Decides (c .counts-ok .result) (Counts (bytes (limited c)) x y z)) (c .counts-ok .ensures)
+counts : (c : tie.After-counts-ok) → let b = bytes (limited c) in Decides (c .counts-ok .result) (Lengths b (at32 b 0) (at32 b 4) (at32 b 8))
+counts c = of-header (limited c) (λ (x y z : ℕ). Decides (c .counts-ok .result) (Lengths (bytes (limited c)) x y z)) (c .counts-ok .ensures)
 
 tail : (c : tie.After-is-blank) → Decides (c .is-blank .result) (take 1476 (drop 60 (bytes (limited (counted c)))) ≡ zeros 1476)
 tail c = tail-decides (bytes (limited (counted c))) (c .is-blank .result) (omega arith) (c .is-blank .ensures)
@@ -55,7 +55,7 @@ counts-ok-requires : tie.Need-counts-ok-requires
 counts-ok-requires c κs = omega (arith, legal c)
 
 returns-3 : tie.Need-returns-3
-returns-3 c = λ m h. refutes (c .before .counts-ok .result) (counts (c .before)) (not-true _ (c .if3 .taken)) (h .numbers .counts)
+returns-3 c = λ m h. refutes (c .before .counts-ok .result) (counts (c .before)) (not-true _ (c .if3 .taken)) (h .numbers .lengths)
 
 add-capacity : tie.Need-add-capacity
 add-capacity c = omega (arith, legal (c .before .before))

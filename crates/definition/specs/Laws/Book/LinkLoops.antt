@@ -5,7 +5,7 @@ use native.Mathlib.Omega.{arith}
 use Rattle.octets.specs.Bytes.{Bytes, at32}
 use Rattle.definition.specs.Book.{walk}
 use Rattle.definition.specs.Laws.Book.Split.{lastFrom, last-from-zero}
-use Rattle.definition.specs.Chain.{lastOf}
+use Rattle.definition.specs.Contracts.LegalBook.{lastOf}
 use Rattle.definition.specs.Contracts.Check.{Leads}
 
 more : (n k : ℕ) → k < n → n - k ≡ suc (n - (k + 1))
