@@ -1,2 +1,5 @@
+pub mod Meaning
 pub mod Search
+pub mod Walk
+pub mod WalkLaws
 pub mod SearchLaws

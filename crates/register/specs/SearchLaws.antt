@@ -5,14 +5,16 @@ use mathlib.Core.Bool.{Bool, true, false}
 use mathlib.Core.Option.{Option, none, some}
 use Prim.Native.Nat.{ℕ, _+_, _*_, _≤_, _<_}
 use native.Mathlib.Omega.{arith}
+use lib.Dec.{T}
 use lib.ListN.{length, take, drop, length-take}
 use borrow.Author.Tests.{eq-eqb, ne-eqb}
-use Rattle.octets.specs.Bytes.{Bytes, same, value, numberAt}
+use Rattle.octets.specs.Bytes.{Bytes, same, value, at32, numberAt}
 use Rattle.octets.specs.PartLaws.{part-front, part-drop, part-part}
 use Rattle.definition.specs.Chain.{Entry, first, times}
 use Rattle.definition.specs.Slot.{cut}
 use Rattle.definition.specs.Record.{readAlarm}
 use Rattle.definition.specs.Book.{Record, recordOf, readBook}
+use Rattle.definition.specs.Sound.{sound}
 use Rattle.definition.specs.Laws.Book.LegalChange.{fair}
 use Rattle.definition.specs.Laws.Book.ChangedChain.{total-on}
 use Rattle.definition.specs.Laws.Book.Occurrences.{times-cons, times-hit, times-miss}
@@ -20,14 +22,11 @@ use Rattle.definition.specs.Contracts.Moves.{prevOf, CanRelease}
 use Rattle.definition.specs.Contracts.LegalBook.{SoundBook, chain}
 use Rattle.register.specs.declared.Found.{Found}
 use Rattle.register.specs.declared.Found.the-variants.{At, Nowhere}
-use Rattle.register.specs.Search.{firstIn, holdsKey, holdsId}
+use Rattle.register.specs.Search.{Used, firstIn, firstActive, holdsKey, holdsId, placeOf}
+use Rattle.register.specs.Walk.{Progress}
+use Rattle.register.specs.WalkLaws.{progress-first, progress-end, progress-here, progress-fits, progress-next}
 
 -- ---- the tests
-
--- r of n bytes lie in a room of m
-pub record Used (n m r : ℕ) : Type 0 where
-  pub fits : r ≤ m
-  pub is : (s : Bytes) → length s ≤ m → take n s ≡ take r s
 
 module _ (b k : Bytes) (i : ℕ) where
   abbrev from : ℕ
@@ -74,6 +73,34 @@ module _ (t : Bytes → Bool) (q : ℕ) where
   unfolding firstIn
   first-miss e c h = rw h
 
+-- ---- along the active chain
+
+-- k of its n records are passed, and what is found on the rest is what is found on the whole; q is the record before `at`
+pub record Searching (t : Bytes → Bool) (b : Bytes) (n k at q : ℕ) : Type 0 where
+  pub progress : Progress b 0 n k at
+  pub same : firstIn t q (drop k (readBook b .active)) ≡ firstActive t b
+
+module _ {t : Bytes → Bool} {b : Bytes} where
+  pub search-start : {n at : ℕ} → T (sound b) → n ≡ at32 b 16 → at ≡ at32 b 12 → Searching t b n 0 at 0
+  search-start h en e = record { progress = progress-first h (omega arith) en e; same = refl }
+
+  module _ {n k at q : ℕ} (w : Searching t b n k at q) where
+    pub search-end : n ≤ k → Nowhere ≡ firstActive t b
+    search-end l = sym (first-none t q) ∙ ap (firstIn t q) (sym (progress-end (w .progress) l)) ∙ w .same
+
+    module _ (l : k < n) where
+      pub search-fits : 1536 * at + 1536 ≤ length b
+      search-fits = progress-fits (w .progress) l
+
+      here : firstIn t q (recordOf b at ∷ drop (k + 1) (readBook b .active)) ≡ firstActive t b
+      here = ap (firstIn t q) (sym (progress-here (w .progress) l)) ∙ w .same
+
+      pub search-hit : t (recordOf b at .content) ≡ true → At at q ≡ firstActive t b
+      search-hit y = sym (first-hit t q (recordOf b at) _ y) ∙ here
+
+      pub search-miss : {r : ℕ} → t (recordOf b at .content) ≡ false → r ≡ at32 b (1536 * at) → Searching t b n (k + 1) r at
+      search-miss y e = record { progress = progress-next (w .progress) l e; same = sym (first-miss t q (recordOf b at) _ y) ∙ here }
+
 -- ---- what a search finds
 
 -- it is on the chain, and the index beside it is the one before it
@@ -114,11 +141,6 @@ module _ (f : Bytes → Bool) (b : Bytes) (x i p : ℕ) (sound : SoundBook b) (h
       }
 
 -- ---- the search and the definition's first match
-
--- what a search says of a chain: the index
-abbrev pub placeOf : Found → Option ℕ
-placeOf (At i p) = some i
-placeOf Nowhere = none
 
 abbrev pub indexOf : Option (Entry Bytes) → Option ℕ
 indexOf none = none

@@ -3,20 +3,20 @@ use Prim.Native.Nat.{ℕ, _+_, _*_, _≤_, _<_}
 use mathlib.Core.Path.{_≡_, refl, sym, ap, _∙_, subst}
 use mathlib.Core.Bool.{Bool, true, false, _&&_}
 use native.Mathlib.Omega.{arith}
-use lib.Dec.{T}
+use lib.Dec.{T, leb, le→leb}
 use lib.ListN.{length, take, drop}
 use Rattle.octets.specs.Bytes.{Bytes, Octets, zeros, blank, at32}
 use Rattle.octets.specs.BlankLaws.{blank→zeros, blank-zeros}
 use Rattle.octets.specs.PartLaws.{part-length}
 use Rattle.octets.specs.BoolLaws.{both, both-left, both-right, holds, fails, true-holds}
-use Rattle.definition.specs.Book.{capacity, every, soundBook, readBook}
+use Rattle.definition.specs.Book.{capacity, isLimit, every, soundBook, readBook}
 use Rattle.definition.specs.Laws.Book.CheckSound.{chain-read, check-sound}
 use Rattle.definition.specs.Laws.Book.CheckComplete.{sound-checked}
-use Rattle.definition.specs.Laws.Book.BookTests.{zeroed-to, zeroed-from, sound-to, sound-from}
+use Rattle.definition.specs.Laws.Book.BookTests.{limits-to, zeroed-to, zeroed-from, sound-to, sound-from}
 use Rattle.definition.specs.Laws.Book.CheckParts.{chained-decides}
 use Rattle.definition.specs.Sound.{activeSound, historySound, auditSound, soundRecords, sound}
 use Rattle.definition.specs.Contracts.Check.{Leads, Chained, PassesCheck, Decides, Apart}
-use Rattle.definition.specs.Contracts.LegalBook.{chain, lastOf, SoundBook}
+use Rattle.definition.specs.Contracts.LegalBook.{chain, lastOf, Limit, SoundBook}
 use Rattle.register_check.specs.Meaning.{EndsAt, Chain, Headed, Heads, passes, number}
 use Rattle.register_check.specs.declared.Kind.{Kind}
 use Rattle.register_check.specs.declared.Kind.the-variants.{Active, History, Audit, Free}
@@ -32,6 +32,14 @@ below Audit = omega arith
 below Free = omega arith
 
 -- ---- the header
+
+-- what `are_limits` says
+pub limits-decide : (a h e : ℕ) (y : Bool) → y ≡ isLimit a && (isLimit h && isLimit e) → Decides y (Limit a × Limit h × Limit e)
+limits-decide a h e true q = limits-to a h e (subst T q tt)
+limits-decide a h e false q = λ l. subst T (sym q) (both (isLimit a) (isLimit h && isLimit e) (limit a (l .0)) (both (isLimit h) (isLimit e) (limit h (l .1)) (limit e (l .2))))
+  where
+    limit : (n : ℕ) → Limit n → T (isLimit n)
+    limit n m = both (leb 1 n) (leb n 65535) (le→leb 1 n (m .0)) (le→leb n 65535 (m .1))
 
 -- what `is_blank` says of the bytes behind the numbers
 pub tail-decides : (b : Bytes) (y : Bool) → 1536 ≤ length b → y ≡ blank (take 1476 (drop 60 b)) → Decides y (take 1476 (drop 60 b) ≡ zeros 1476)

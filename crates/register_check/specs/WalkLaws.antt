@@ -4,13 +4,13 @@ use mathlib.Core.Bool.{Bool, true, false, _&&_}
 use Prim.Native.Nat.{ℕ, suc, _+_, _-_, _*_, _≤_, _<_}
 use native.Mathlib.Omega.{arith}
 use lib.Dec.{T}
-use lib.ListN.{length, take, drop}
+use lib.ListN.{length}
 use Rattle.octets.specs.Bytes.{Bytes, same, zeros, blank, at32}
 use Rattle.definition.specs.Book.{Record, payloadWidth, recordOf, walk, every}
 use Rattle.definition.specs.Laws.Book.LinkLoops.{Went, went-start, went-on, went-end}
 use Rattle.definition.specs.Contracts.LegalBook.{lastOf}
 use Rattle.definition.specs.Contracts.Check.{Leads}
-use Rattle.register_check.specs.Meaning.{holds, passes}
+use Rattle.register_check.specs.Meaning.{holds}
 use Rattle.register_check.specs.declared.Kind.{Kind}
 use Rattle.register_check.specs.declared.Kind.the-variants.{Free}
 
@@ -23,12 +23,6 @@ of-kind j p e h = h ∙ ap (λ (i : Kind). holds i p) (sym e)
 pub blank-payload : (p : Bytes) → length p ≡ payloadWidth → blank p ≡ holds Free p
 unfolding blank
 blank-payload p e = ap (λ (n : ℕ). same (zeros n) p) e
-
--- the bytes behind a record's link
-pub payload-of : (k : Kind) (b : Bytes) (at : ℕ) → holds k (take (1536 * at + 1536 - (1536 * at + 4)) (drop (1536 * at + 4) b)) ≡ passes k (recordOf b at)
-payload-of k b at =
-    let e : 1536 * at + 1536 - (1536 * at + 4) ≡ payloadWidth = omega arith in
-    ap (λ (n : ℕ). holds k (take n (drop (1536 * at + 4) b))) e
 
 -- ---- a walk
 

@@ -1,14 +1,24 @@
-// Whether bytes are a sound register, and where its chains end. One pass: each chain is walked once for as many records as the header says.
+// Whether bytes are a sound register, and where its chains end.
+//
+// "Each record on one chain" could be tested by marking records. The check makes one pass and marks none: it looks at the header's
+// numbers, and walks each chain once for as many records as the header says, testing their payloads on the way (record_check). Chains
+// that met would go on together and end in one record; so where the walks end, and in different records, no record is on two chains,
+// and as the lengths make up the capacity none is on no chain. The definition has this as a law (Contracts/Check.antt says what is
+// looked at, Laws/Book/CheckSound.antt and CheckComplete.antt that it comes to the same).
+//
+// The last records of the walks are the answer's `Ends`: operations add to the chains there, and need no walk of their own.
 ghost use mathlib.Core.Path.{_≡_};
-ghost use Prim.Native.Nat.{_+_, _*_, _≤_};
+ghost use Prim.Native.Nat.{_+_, _*_, _≤_, _<_};
 ghost use lib.ListN.{length};
+ghost use Rattle.octets.specs.Bytes.{at32};
 ghost use Rattle.definition.specs.Limits.{recordWidth};
 ghost use Rattle.definition.specs.Book.{payloadWidth};
-ghost use Rattle.definition.specs.Contracts.LegalBook.{Limit};
 ghost use Rattle.definition.specs.Contracts.Check.{Decides, Lengths, Apart};
 ghost use Rattle.record_check.specs.Ruler.{rulerBytes};
-ghost use Rattle.register_check.specs.Meaning.{Chain, Gives, Headed, Heads, Linked, Walks, holds, number};
+ghost use Rattle.register_check.specs.Meaning.{Chain, Gives, Headed, Heads, Linked, Walks, holds, number as numberOf};
+use model::HeaderAt;
 use model::Record;
+use register::Ends;
 
 // The length of the ruler by which the rooms of strings are tested (record_check): twice the widest room.
 const RULER: usize = 1024;
@@ -16,15 +26,8 @@ const RULER: usize = 1024;
 // A byte's highest bit.
 const HIGH: u8 = 128;
 
-// Index of each chain's last record, 0 for none.
-pub struct Lasts {
-    pub active: u32,
-    pub history: u32,
-    pub audit: u32,
-}
-
 pub enum Soundness {
-    Sound(Lasts),
+    Sound(Ends),
     Unsound,
 }
 
@@ -73,7 +76,7 @@ fn link_of(register: &[u8], capacity: u32, i: u32) -> u32
     if capacity < i {
         return 0;
     }
-    octets::get32(register, Record::WIDTH * (i as usize))
+    register::next(register, i)
 }
 
 // The way by links from `head` on: as many records as `count` says, each of 1 to `capacity` with a payload of its chain, and then 0. The link
@@ -94,10 +97,7 @@ fn walk(register: &[u8], capacity: u32, kind: Kind, head: u32, count: u32, ruler
             return Walked::Broken;
         }
         let link = link_of(register, capacity, next);
-        let start = Record::WIDTH * (at as usize);
-        let a = start + 4;
-        let e = start + Record::WIDTH;
-        if !payload_ok(kind, &register[a..e], ruler) {
+        if !payload_ok(kind, register::payload(register, at), ruler) {
             return Walked::Broken;
         }
         last = at;
@@ -111,72 +111,56 @@ fn walk(register: &[u8], capacity: u32, kind: Kind, head: u32, count: u32, ruler
     Walked::End(last)
 }
 
-// Where the header has a chain's head; the chain's length follows it.
-fn head_at(kind: Kind) -> usize
-    ensures { λ r. ⌜ (r ≡ 12 + 8 * number kind) × (r ≤ 36) ⌝ }
+// The chain's number.
+fn number(kind: Kind) -> usize
+    ensures { λ r. ⌜ (r ≡ numberOf kind) × (r < 4) ⌝ }
 {
     match kind {
-        Kind::Active => 12,
-        Kind::History => 20,
-        Kind::Audit => 28,
-        Kind::Free => 36,
+        Kind::Active => register::ACTIVE,
+        Kind::History => register::HISTORY,
+        Kind::Audit => register::AUDIT,
+        Kind::Free => register::FREE,
     }
+}
+
+// The length that the header says chain x has.
+fn length_at(register: &[u8], x: usize) -> u32
+    requires { ⌜ (recordWidth ≤ length (now register)) × (x < 4) ⌝ }
+    ensures { λ r. ⌜ r ≡ at32 (now (register .entry)) (16 + 8 * x) ⌝ }
+{
+    octets::get32(register, HeaderAt::HELD + HeaderAt::CHAIN * x)
 }
 
 fn chain(register: &[u8], capacity: u32, kind: Kind, ruler: &[u8]) -> Walked
     requires { ⌜ (length (now register) ≡ recordWidth * (capacity + 1)) × (now ruler ≡ rulerBytes) ⌝ }
     ensures { λ r. ⌜ Chain r kind (now (register .entry)) capacity ⌝ }
 {
-    let at = head_at(kind);
-    let head = octets::get32(register, at);
-    let count = octets::get32(register, at + 4);
+    let x = number(kind);
+    let head = octets::get32(register, HeaderAt::FIRST + HeaderAt::CHAIN * x);
+    let count = length_at(register, x);
     walk(register, capacity, kind, head, count, ruler)
 }
 
 // ---- the header
-
-fn limits_ok(a: u32, h: u32, e: u32) -> bool
-    ensures { λ r. ⌜ Decides r (Limit a × Limit h × Limit e) ⌝ }
-{
-    if a == 0 {
-        return false;
-    }
-    if 65535 < a {
-        return false;
-    }
-    if h == 0 {
-        return false;
-    }
-    if 65535 < h {
-        return false;
-    }
-    if e == 0 {
-        return false;
-    }
-    if 65535 < e {
-        return false;
-    }
-    true
-}
 
 // Whether the chains' lengths are within the limits, and make up their sum.
 fn counts_ok(register: &[u8], a: u32, h: u32, e: u32) -> bool
     requires { ⌜ (recordWidth ≤ length (now register)) × (a ≤ 65535) × (h ≤ 65535) × (e ≤ 65535) ⌝ }
     ensures { λ r. ⌜ Decides r (Lengths (now (register .entry)) a h e) ⌝ }
 {
-    let active = octets::get32(register, 16);
+    let active = length_at(register, register::ACTIVE);
     if a < active {
         return false;
     }
-    let history = octets::get32(register, 24);
+    let history = length_at(register, register::HISTORY);
     if h < history {
         return false;
     }
-    let audit = octets::get32(register, 32);
+    let audit = length_at(register, register::AUDIT);
     if e < audit {
         return false;
     }
-    let free = octets::get32(register, 40);
+    let free = length_at(register, register::FREE);
     if free != (a - active) + (h - history) + (e - audit) {
         return false;
     }
@@ -190,10 +174,10 @@ fn header(register: &[u8]) -> HeaderVerdict
     if register.len() < Record::WIDTH {
         return HeaderVerdict::Wrong;
     }
-    let a = octets::get32(register, 0);
-    let h = octets::get32(register, 4);
-    let e = octets::get32(register, 8);
-    if !limits_ok(a, h, e) {
+    let a = octets::get32(register, HeaderAt::ACTIVE_LIMIT);
+    let h = octets::get32(register, HeaderAt::HISTORY_LIMIT);
+    let e = octets::get32(register, HeaderAt::AUDIT_LIMIT);
+    if !model::are_limits(a, h, e) {
         return HeaderVerdict::Wrong;
     }
     if !counts_ok(register, a, h, e) {
@@ -203,7 +187,7 @@ fn header(register: &[u8]) -> HeaderVerdict
     if register.len() != Record::WIDTH * (capacity as usize + 1) {
         return HeaderVerdict::Wrong;
     }
-    if !octets::is_blank(&register[60..Record::WIDTH]) {
+    if !octets::is_blank(&register[HeaderAt::SPARE..Record::WIDTH]) {
         return HeaderVerdict::Wrong;
     }
     HeaderVerdict::Capacity(capacity)
@@ -255,7 +239,7 @@ fn chains(register: &[u8], capacity: u32, ruler: &[u8]) -> Soundness
     if !apart(a, h, e, f) {
         return Soundness::Unsound;
     }
-    Soundness::Sound(Lasts {
+    Soundness::Sound(Ends {
         active: a,
         history: h,
         audit: e,

@@ -1,5 +1,9 @@
-// Damages sound registers as its input orders, and writes what the check says of each. The input: the length of the registers'
-// bytes, these bytes, and orders of three numbers. It and the expected output are made by `python3 tests/register/make.py`.
+// Damages sound registers as its input orders, and writes what the check says of each: an outside witness of register_check, whose
+// contract says that its verdict is the definition's, but not that the definition is what is meant.
+//
+// The input: the length of the registers' bytes, these bytes, and orders of three numbers, which load a register, write a number into
+// it, ask for a verdict and the chains' ends, or change each byte in turn and ask for a verdict each time. It and the expected output
+// are made by `python3 tests/register/make.py`, which has a check of its own, written from docs/layout.json.
 use libc::STDIN_FILENO;
 use libc::STDOUT_FILENO;
 use register_check::Soundness;
@@ -15,14 +19,14 @@ fn report(work: &[u8], n: usize) {
         return;
     }
     let found = register_check::check(&work[0..n]);
-    let Soundness::Sound(l) = found else {
+    let Soundness::Sound(ends) = found else {
         io::write_all(STDOUT_FILENO, b"unsound\n");
         return;
     };
     io::write_all(STDOUT_FILENO, b"sound");
-    number(l.active);
-    number(l.history);
-    number(l.audit);
+    number(ends.active);
+    number(ends.history);
+    number(ends.audit);
     io::write_all(STDOUT_FILENO, b"\n");
 }
 

@@ -4,52 +4,64 @@ use mathlib.Core.Path.{_≡_, subst₃}
 use native.Mathlib.Omega.{arith}
 use borrow.Author.Tests.{not-true, not-false}
 use lib.ListN.{take, drop}
-use Rattle.octets.specs.Bytes.{zeros, at32}
+use denote.Ref.{now}
+use Rattle.octets.specs.Bytes.{Bytes, zeros, at32}
 use Rattle.definition.specs.Laws.Book.CheckParts.{confirms, refutes, capacity-read, numbers-of, size-of}
 use Rattle.definition.specs.Contracts.LegalBook.{Limit}
 use Rattle.definition.specs.Contracts.Check.{Decides, Lengths}
-use Rattle.register_check.specs.JudgeLaws.{tail-decides}
+use Rattle.register_check.specs.JudgeLaws.{limits-decide, tail-decides}
 use borrow.Author.Needs.{needs}
 use Rattle.register_check.proofs.header.Statement.{statement}
 use Rattle.register_check.proofs.header.Tie as tie
 
-returns-2 : tie.Need-returns-2
-returns-2 c = λ m h. refutes (c .before .limits-ok .result) (c .before .limits-ok .ensures) (not-true _ (c .if2 .taken)) (omega (arith, h .numbers .limits))
+-- where the limits are read, tested, and the lengths compared with them
+abbrev limits-read : tie.After-are-limits → tie.After-get323
+limits-read c = c .before
+
+abbrev limited : tie.After-counts-ok → tie.After-are-limits
+limited c = c .before .before
+
+abbrev counted : tie.After-is-blank → tie.After-counts-ok
+counted c = c .before .before .before .before
+
+abbrev bytes : tie.After-are-limits → Bytes
+bytes c = now (limits-read c .before .before .before .before .before .args .register)
+
+-- what is said of the numbers read holds of the header's
+of-header : (c : tie.After-are-limits) (P : ℕ → ℕ → ℕ → Type 0) → let g = limits-read c in P (g .before .before .get32 .result) (g .before .get322 .result) (g .get323 .result) → let b = bytes c in P (at32 b 0) (at32 b 4) (at32 b 8)
+of-header c P p = let g = limits-read c in subst₃ P (g .before .before .get32 .ensures) (g .before .get322 .ensures) (g .get323 .ensures) p
+
+-- ---- what the tests said
+
+limits : (c : tie.After-are-limits) → let b = bytes c in Decides (c .are-limits .result) (Limit (at32 b 0) × Limit (at32 b 4) × Limit (at32 b 8))
+limits c = of-header c (λ (x y z : ℕ). Decides (c .are-limits .result) (Limit x × Limit y × Limit z)) (limits-decide _ _ _ _ (c .are-limits .ensures))
+
+counts : (c : tie.After-counts-ok) → let b = bytes (limited c) in Decides (c .counts-ok .result) (Lengths b (at32 b 0) (at32 b 4) (at32 b 8))
+counts c = of-header (limited c) (λ (x y z : ℕ). Decides (c .counts-ok .result) (Lengths (bytes (limited c)) x y z)) (c .counts-ok .ensures)
+
+tail : (c : tie.After-is-blank) → Decides (c .is-blank .result) (take 1476 (drop 60 (bytes (limited (counted c)))) ≡ zeros 1476)
+tail c = tail-decides (bytes (limited (counted c))) (c .is-blank .result) (omega arith) (c .is-blank .ensures)
 
 -- the limits, once they are tested
-limits : (c : tie.Else2) → Limit (c .before .before .before .before .get32 .result) × Limit (c .before .before .before .get322 .result) × Limit (c .before .before .get323 .result)
-limits c = confirms (c .before .limits-ok .result) (c .before .limits-ok .ensures) (not-false _ (c .if2 .left))
+legal : (c : tie.Else2) → let b = bytes (c .before) in Limit (at32 b 0) × Limit (at32 b 4) × Limit (at32 b 8)
+legal c = confirms (c .before .are-limits .result) (limits (c .before)) (not-false _ (c .if2 .left))
 
--- what `counts_ok` said
-counts :
-    (c : tie.After-counts-ok) →
-    let b = c .before .before .before .before .before .before .before .before .args .register .now in
-    Decides (c .counts-ok .result) (Lengths b (at32 b 0) (at32 b 4) (at32 b 8))
-counts c =
-    let b = c .before .before .before .before .before .before .before .before .args .register .now in
-    let g = c .before .before .before in
-    subst₃ (λ (x y z : ℕ). Decides (c .counts-ok .result) (Lengths b x y z)) (g .before .before .get32 .ensures) (g .before .get322 .ensures) (g .get323 .ensures) (c .counts-ok .ensures)
+-- ---- the ways out
 
--- what `is_blank` said
-tail :
-    (c : tie.After-is-blank) →
-    let b = c .before .before .before .before .before .before .before .before .before .before .before .before .args .register .now in
-    Decides (c .is-blank .result) (take 1476 (drop 60 b) ≡ zeros 1476)
-tail c =
-    let b = c .before .before .before .before .before .before .before .before .before .before .before .before .args .register .now in
-    tail-decides b (c .is-blank .result) (omega arith) (c .is-blank .ensures)
+returns-2 : tie.Need-returns-2
+returns-2 c = λ m h. refutes (c .before .are-limits .result) (limits (c .before)) (not-true _ (c .if2 .taken)) (h .numbers .limits)
 
 counts-ok-requires : tie.Need-counts-ok-requires
-counts-ok-requires c κs = omega (arith, limits c)
+counts-ok-requires c κs = omega (arith, legal c)
 
 returns-3 : tie.Need-returns-3
 returns-3 c = λ m h. refutes (c .before .counts-ok .result) (counts (c .before)) (not-true _ (c .if3 .taken)) (h .numbers .lengths)
 
 add-capacity : tie.Need-add-capacity
-add-capacity c = omega (arith, limits (c .before .before))
+add-capacity c = omega (arith, legal (c .before .before))
 
 add-capacity-2 : tie.Need-add-capacity-2
-add-capacity-2 c = omega (arith, limits (c .before .before))
+add-capacity-2 c = omega (arith, legal (c .before .before))
 
 returns-4 : tie.Need-returns-4
 returns-4 c = λ m h. c .if4 .taken (omega (arith, size-of _ (h .numbers)))
@@ -59,12 +71,13 @@ returns-5 c = λ m h. refutes (c .before .is-blank .result) (tail (c .before)) (
 
 returns-6 : tie.Need-returns-6
 returns-6 c =
-    let b = c .before .before .before .before .before .before .before .before .before .before .before .before .before .args .register .now in
+    let t = c .before in
+    let k = counted t in
+    let b = bytes (limited k) in
     record {
       room = omega (arith, capacity-read b);
-      numbers = numbers-of b (omega (arith, limits (c .before .before .before .before .before .before)))
-          (omega arith) (confirms (c .before .before .before .before .before .counts-ok .result) (counts (c .before .before .before .before .before)) (not-false _ (c .before .before .before .before .if3 .left)));
-      tail = confirms (c .before .is-blank .result) (tail (c .before)) (not-false _ (c .if5 .left));
+      numbers = numbers-of b (legal (k .before)) (omega arith) (confirms (k .counts-ok .result) (counts k) (not-false _ (t .before .before .before .if3 .left)));
+      tail = confirms (t .is-blank .result) (tail t) (not-false _ (c .if5 .left));
     }
 
 pub header-spec : {M : Type 1} → statement M
