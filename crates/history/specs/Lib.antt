@@ -1,4 +1,5 @@
 pub mod Meaning
+pub mod StandingLaws
 pub mod Walk
 pub mod DoesLaws
 pub mod FoundLaws

@@ -12,7 +12,7 @@ use Rattle.definition.specs.Contracts.Check.{Leads, Numbers}
 use Rattle.definition.specs.Contracts.LegalBook.{chain}
 use Rattle.register_check.specs.declared.Soundness.{Soundness}
 use Rattle.register_check.specs.declared.Soundness.the-variants.{Sound, Unsound}
-use Rattle.register_check.specs.declared.Lasts.{Lasts}
+use Rattle.register.specs.declared.Ends.{Ends}
 use Rattle.register_check.specs.declared.Kind.{Kind}
 use Rattle.register_check.specs.declared.Kind.the-variants.{Active, History, Audit, Free}
 use Rattle.register_check.specs.declared.HeaderVerdict.{HeaderVerdict}
@@ -22,15 +22,15 @@ use Rattle.register_check.specs.declared.Walked.the-variants.{End, Broke
 
 -- ---- the answer
 
--- the last record of each chain that a new record can be added to, 0 for none
-pub record EndsAt (l : Lasts) (b : Bytes) : Type 0 where
-  pub active : l .active ≡ lastOf (chain 0 (readBook b))
-  pub history : l .history ≡ lastOf (chain 1 (readBook b))
-  pub audit : l .audit ≡ lastOf (chain 2 (readBook b))
+-- the chains that a new record can be added to end there
+pub record EndsAt (e : Ends) (b : Bytes) : Type 0 where
+  pub active : e .active ≡ lastOf (chain 0 (readBook b))
+  pub history : e .history ≡ lastOf (chain 1 (readBook b))
+  pub audit : e .audit ≡ lastOf (chain 2 (readBook b))
 
 -- an answer is right: the bytes are sound, and their chains end there; or they are not, "22"
 abbrev pub Gives : Soundness → Bytes → Type 0
-Gives (Sound l) b = (sound b ≡ true) × EndsAt l b
+Gives (Sound e) b = (sound b ≡ true) × EndsAt e b
 Gives Unsound b = sound b ≡ false
 
 -- ---- one chain

@@ -9,6 +9,7 @@ ghost use Rattle.definition.specs.Contracts.Check.{Decides, Counts, Apart};
 ghost use Rattle.record_check.specs.Ruler.{rulerBytes};
 ghost use Rattle.register_check.specs.Meaning.{Chain, Gives, Headed, Heads, Linked, Walks, holds, number};
 use model::Record;
+use register::Ends;
 
 // The length of the ruler by which the rooms of strings are tested (record_check): twice the widest room.
 const RULER: usize = 1024;
@@ -16,15 +17,8 @@ const RULER: usize = 1024;
 // A byte's highest bit.
 const HIGH: u8 = 128;
 
-// Index of each chain's last record, 0 for none.
-pub struct Lasts {
-    pub active: u32,
-    pub history: u32,
-    pub audit: u32,
-}
-
 pub enum Soundness {
-    Sound(Lasts),
+    Sound(Ends),
     Unsound,
 }
 
@@ -255,7 +249,7 @@ fn chains(register: &[u8], capacity: u32, ruler: &[u8]) -> Soundness
     if !apart(a, h, e, f) {
         return Soundness::Unsound;
     }
-    Soundness::Sound(Lasts {
+    Soundness::Sound(Ends {
         active: a,
         history: h,
         audit: e,

@@ -15,14 +15,14 @@ fn report(work: &[u8], n: usize) {
         return;
     }
     let found = register_check::check(&work[0..n]);
-    let Soundness::Sound(l) = found else {
+    let Soundness::Sound(ends) = found else {
         io::write_all(STDOUT_FILENO, b"unsound\n");
         return;
     };
     io::write_all(STDOUT_FILENO, b"sound");
-    number(l.active);
-    number(l.history);
-    number(l.audit);
+    number(ends.active);
+    number(ends.history);
+    number(ends.audit);
     io::write_all(STDOUT_FILENO, b"\n");
 }
 
