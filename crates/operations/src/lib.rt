@@ -22,7 +22,7 @@ ghost use Rattle.history.specs.Meaning.{Standing};
 ghost use Rattle.raising.specs.Meaning.{Ready};
 ghost use Rattle.state.specs.Meaning.{Clearing};
 ghost use Rattle.reply.specs.Meaning.{Replies};
-ghost use Rattle.operations.specs.Meaning.{inRoomy};
+ghost use Rattle.operations.specs.Meaning.{withRoom};
 use call::Parsed;
 use model::Record;
 use raise_fields::Clear;
@@ -82,7 +82,10 @@ fn asks_record(parsed: Parsed) -> bool
         Parsed::Policy(_, _) => true,
         Parsed::Expire(_) => true,
         Parsed::Active(_) => false,
-        Parsed::History { tenant: _, slice: _ } => false,
+        Parsed::History {
+            tenant: _,
+            slice: _,
+        } => false,
         Parsed::Counts => false,
         Parsed::Summary => true,
         Parsed::TakeAudit(_) => false,
@@ -93,13 +96,19 @@ fn asks_record(parsed: Parsed) -> bool
 // ---- the operations
 
 // The operation of a call, where there is room for a record if it asks for one.
-fn dispatch(register: &mut [u8], ends: Ends, call: &[u8], parsed: Parsed, answer: &mut [u8]) -> Reply
+fn dispatch(
+    register: &mut [u8],
+    ends: Ends,
+    call: &[u8],
+    parsed: Parsed,
+    answer: &mut [u8],
+) -> Reply
     requires { ⌜ Standing (now register) ends × parsedWithin (now call) parsed × LegalCall (meaning (now call) parsed) ⌝ }
     requires { ⌜ asksRecord (opOf (meaning (now call) parsed)) ≡ true → 1552 ≤ length (now answer) ⌝ }
     ensures { λ y.
         ⌜ Replies
         y
-        (inRoomy (meaning (now (call .entry)) parsed) (length (now (answer .entry))))
+        (withRoom (meaning (now (call .entry)) parsed) (length (now (answer .entry))))
         (now (register .entry))
         (now (register .exit))
         (now (answer .entry))
@@ -108,7 +117,14 @@ fn dispatch(register: &mut [u8], ends: Ends, call: &[u8], parsed: Parsed, answer
     match parsed {
         Parsed::Raise(r) => raise(register, ends, call, r, answer),
         Parsed::Clear(c) => Reply::Answered(clear(register, ends, call, c, answer)),
-        Parsed::Plain(action, p) => Reply::Answered(state::plain(register, ends, call, p, action, answer)),
+        Parsed::Plain(action, p) => Reply::Answered(state::plain(
+            register,
+            ends,
+            call,
+            p,
+            action,
+            answer,
+        )),
         Parsed::Policy(action, p) => Reply::Answered(admin::apply_admin_action(
             register,
             ends,
@@ -134,7 +150,13 @@ fn dispatch(register: &mut [u8], ends: Ends, call: &[u8], parsed: Parsed, answer
 }
 
 // A call that was read, on a sound register and its chains' ends.
-pub fn perform(register: &mut [u8], ends: Ends, call: &[u8], parsed: Parsed, answer: &mut [u8]) -> Reply
+pub fn perform(
+    register: &mut [u8],
+    ends: Ends,
+    call: &[u8],
+    parsed: Parsed,
+    answer: &mut [u8],
+) -> Reply
     requires { ⌜ Standing (now register) ends × parsedWithin (now call) parsed × LegalCall (meaning (now call) parsed) ⌝ }
     ensures { λ y.
         ⌜ Replies

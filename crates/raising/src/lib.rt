@@ -30,7 +30,14 @@ use register::Found;
 use reply::Reply;
 
 // Active record i has the key.
-fn update(register: &mut [u8], i: u32, ends: Ends, call: &[u8], r: Raise, answer: &mut [u8]) -> usize
+fn update(
+    register: &mut [u8],
+    i: u32,
+    ends: Ends,
+    call: &[u8],
+    r: Raise,
+    answer: &mut [u8],
+) -> usize
     requires { ⌜ Ready (now register) ends (now call) r (now answer) × OnActive (now register) i ⌝ }
     ensures { λ n.
         ⌜ Answers

@@ -136,7 +136,14 @@ pub fn plain(
         return not_authorized(answer, action);
     }
     let id = p.id;
-    plain_on(register, ends, model::part(call, id), p.time, action, answer)
+    plain_on(
+        register,
+        ends,
+        model::part(call, id),
+        p.time,
+        action,
+        answer,
+    )
 }
 
 // ---- 2 clear
