@@ -1,8 +1,9 @@
--- What the fields of a call with policy mean: offsets and lengths become the bytes there.
+-- What the fields of operations 3 to 6 mean: offsets and lengths become the bytes there.
 use Rattle.octets.specs.Bytes.{Bytes}
 use Rattle.definition.specs.Limits.{shortLimit, regionLimit, textLimit}
-use Rattle.definition.specs.Value.{ScopeValue, ActorValue, RequestValue, VerdictValue, PolicyValue}
+use Rattle.definition.specs.Value.{PlainValue, ScopeValue, ActorValue, RequestValue, VerdictValue, PolicyValue}
 use Rattle.model.specs.Meaning.{part, optPart, within, optWithin}
+use Rattle.action_fields.specs.declared.Plain.{Plain}
 use Rattle.action_fields.specs.declared.Scope.{Scope}
 use Rattle.action_fields.specs.declared.Scope.the-variants as S
 use Rattle.action_fields.specs.declared.Actor.{Actor}
@@ -11,6 +12,9 @@ use Rattle.action_fields.specs.declared.Verdict.{Verdict}
 use Rattle.action_fields.specs.declared.Policy.{Policy}
 
 -- ---- values
+
+abbrev pub plainValue : Bytes → Plain → PlainValue
+plainValue call p = record { time = p .time; id = part call (p .id); authorised = p .authorised }
 
 -- 0 alarm with id, 1 tenant with string, 2 global
 abbrev pub scopeValue : Bytes → Scope → ScopeValue
@@ -32,6 +36,9 @@ policyValue call p =
     record { actor = actorValue call (p .actor); request = requestValue call (p .request); verdict = verdictValue call (p .verdict) }
 
 -- ---- every part lies within the call and its limit
+
+abbrev pub plainWithin : Bytes → Plain → Type 0
+plainWithin call p = within call shortLimit (p .id)
 
 abbrev pub scopeWithin : Bytes → Scope → Type 0
 scopeWithin call (S.Alarm p) = within call shortLimit p

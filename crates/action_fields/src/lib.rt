@@ -1,14 +1,21 @@
-// The fields of an acknowledgement or a suppression with policy.
+// The fields of an acknowledgement or a suppression, without and with a policy: operations 3 to 6.
 use fields::Cursor;
 use fields::StringKind;
 use model::OptSpan;
 use model::Record;
 use model::Span;
 ghost use Rattle.definition.specs.Limits.{regionLimit};
-ghost use Rattle.definition.specs.Parse.{scope, actor, request, verdict, policyFields};
+ghost use Rattle.definition.specs.Parse.{plainFields, scope, actor, request, verdict, policyFields};
 ghost use Rattle.fields.specs.Cursor.{Reads};
 ghost use Rattle.model.specs.Meaning.{within};
-ghost use Rattle.action_fields.specs.Meaning.{scopeValue, actorValue, requestValue, verdictValue, policyValue, scopeWithin, ActorWithin, RequestWithin, PolicyWithin};
+ghost use Rattle.action_fields.specs.Meaning.{plainValue, scopeValue, actorValue, requestValue, verdictValue, policyValue, plainWithin, scopeWithin, ActorWithin, RequestWithin, PolicyWithin};
+
+// An acknowledgement or a suppression without a policy. The flag is 0 or 1.
+pub struct Plain {
+    pub time: u64,
+    pub id: Span,
+    pub authorised: u8,
+}
 
 // What is asked for: one alarm by its id, the alarms of a tenant, or all.
 pub enum Scope {
@@ -46,6 +53,11 @@ pub struct Policy {
 }
 
 // What a reader answers: a value, and where the reading stands after it.
+pub struct PlainRead {
+    pub plain: Plain,
+    pub next: Cursor,
+}
+
 struct ScopeRead {
     scope: Scope,
     next: Cursor,
@@ -70,6 +82,31 @@ pub struct PolicyRead {
     pub policy: Policy,
     pub next: Cursor,
 }
+
+// ---- 3 acknowledge, 4 suppress
+
+// The fields of operations 3 and 4 at a place.
+pub fn plain_at(call: &[u8], at: Cursor) -> PlainRead
+    ensures { λ r. ⌜ Reads (now (call .entry)) at plainFields (plainValue (now (call .entry)) (r .plain)) (r .next) × plainWithin (now (call .entry)) (r .plain) ⌝ }
+{
+    let time = fields::number_at(call, at, 8);
+    let at = time.next;
+    let id = fields::text_at(call, at, Record::SHORT);
+    let at = id.next;
+    let id = id.text;
+    let authorised = fields::choice_at(call, at, 0, 1);
+    let at = authorised.next;
+    PlainRead {
+        plain: Plain {
+            time: time.value,
+            id: id,
+            authorised: authorised.value,
+        },
+        next: at,
+    }
+}
+
+// ---- 5, 6 the same with policy
 
 // A kind, and the string of the kinds 0 and 1.
 fn scope_at(call: &[u8], at: Cursor) -> ScopeRead

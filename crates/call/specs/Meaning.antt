@@ -2,30 +2,24 @@
 use Rattle.octets.specs.Bytes.{Bytes}
 use Rattle.definition.specs.Limits.{shortLimit}
 use Rattle.definition.specs.Reader.{Reader}
-use Rattle.definition.specs.Value.{PlainValue, CallValue, acknowledging, suppressing}
-use Rattle.model.specs.Meaning.{part, optPart, within, optWithin}
+use Rattle.definition.specs.Value.{CallValue}
+use Rattle.model.specs.Meaning.{optPart, optWithin, actionOf}
 use Rattle.fields.specs.declared.Cursor.{Cursor}
 use Rattle.fields.specs.Cursor.{Reads}
-use Rattle.action_fields.specs.Meaning.{policyValue, PolicyWithin}
+use Rattle.action_fields.specs.Meaning.{plainValue, policyValue, plainWithin, PolicyWithin}
 use Rattle.raise_fields.specs.Meaning.{raiseValue, clearValue, RaiseWithin, ClearWithin}
-use Rattle.call.specs.declared.Plain.{Plain}
 use Rattle.call.specs.declared.Parsed.{Parsed}
 use Rattle.call.specs.declared.Parsed.the-variants as P
 use Rattle.call.specs.declared.CallRead.{CallRead}
 
 -- ---- values
 
-abbrev pub plainValue : Bytes → Plain → PlainValue
-plainValue call p = record { time = p .time; id = part call (p .id); authorised = p .authorised }
-
 -- operations 1 to 12, and the refusals
 abbrev pub meaning : Bytes → Parsed → CallValue
 meaning call (P.Raise r) = CallValue.raise (raiseValue call r)
 meaning call (P.Clear r) = CallValue.clear (clearValue call r)
-meaning call (P.Acknowledge p) = CallValue.plain acknowledging (plainValue call p)
-meaning call (P.Suppress p) = CallValue.plain suppressing (plainValue call p)
-meaning call (P.AcknowledgePolicy p) = CallValue.policy acknowledging (policyValue call p)
-meaning call (P.SuppressPolicy p) = CallValue.policy suppressing (policyValue call p)
+meaning call (P.Plain x p) = CallValue.plain (actionOf x) (plainValue call p)
+meaning call (P.Policy x p) = CallValue.policy (actionOf x) (policyValue call p)
 meaning call (P.Expire t) = CallValue.expire t
 meaning call (P.Active v) = CallValue.active v
 meaning call (P.History t s) = CallValue.history (optPart call t) (optPart call s)
@@ -39,10 +33,8 @@ meaning call (P.Refused n) = CallValue.refused n
 abbrev pub parsedWithin : Bytes → Parsed → Type 0
 parsedWithin call (P.Raise r) = RaiseWithin call r
 parsedWithin call (P.Clear r) = ClearWithin call r
-parsedWithin call (P.Acknowledge p) = within call shortLimit (p .id)
-parsedWithin call (P.Suppress p) = within call shortLimit (p .id)
-parsedWithin call (P.AcknowledgePolicy p) = PolicyWithin call p
-parsedWithin call (P.SuppressPolicy p) = PolicyWithin call p
+parsedWithin call (P.Plain x p) = plainWithin call p
+parsedWithin call (P.Policy x p) = PolicyWithin call p
 parsedWithin call (P.Expire t) = Unit
 parsedWithin call (P.Active v) = Unit
 parsedWithin call (P.History t s) = optWithin call shortLimit t × optWithin call shortLimit s

@@ -1,12 +1,14 @@
 // A call: its operation and its fields, read to numbers, and to places and lengths of its strings.
+use action_fields::Plain;
+use action_fields::PlainRead;
 use action_fields::Policy;
 use action_fields::PolicyRead;
 use fields::Cursor;
 use fields::NumRead;
 use fields::StringKind;
+use model::Action;
 use model::OptSpan;
 use model::Record;
-use model::Span;
 use raise_fields::Clear;
 use raise_fields::ClearRead;
 use raise_fields::Raise;
@@ -15,29 +17,19 @@ ghost use mathlib.Core.Path.{_≡_};
 ghost use mathlib.Core.Bool.{_||_};
 ghost use Prim.Native.Nat.{_<_};
 ghost use lib.Dec.{leb, eqb};
-ghost use Rattle.definition.specs.Limits.{shortLimit};
 ghost use Rattle.definition.specs.Reader.{into};
 ghost use Rattle.definition.specs.Value.{CallValue};
-ghost use Rattle.definition.specs.Parse.{plainFields, severityOrAll, historyFields, fieldsOf, whole, parseCall};
-ghost use Rattle.model.specs.Meaning.{within};
-ghost use Rattle.fields.specs.Cursor.{outAt, Reads};
-ghost use Rattle.call.specs.Meaning.{plainValue, meaning, parsedWithin, Says};
-
-// An acknowledgement or a suppression without a policy. The flag is 0 or 1.
-pub struct Plain {
-    pub time: u64,
-    pub id: Span,
-    pub authorised: u8,
-}
+ghost use Rattle.definition.specs.Parse.{plainFields, policyFields, severityOrAll, historyFields, fieldsOf, whole, parseCall};
+ghost use Rattle.model.specs.Meaning.{actionOf};
+ghost use Rattle.fields.specs.Cursor.{outAt};
+ghost use Rattle.call.specs.Meaning.{meaning, parsedWithin, Says};
 
 // A call, or the number of its first fault.
 pub enum Parsed {
     Raise(Raise),
     Clear(Clear),
-    Acknowledge(Plain),
-    Suppress(Plain),
-    AcknowledgePolicy(Policy),
-    SuppressPolicy(Policy),
+    Plain(Action, Plain),
+    Policy(Action, Policy),
     Expire(u64),
     Active(u8),
     History { tenant: OptSpan, slice: OptSpan },
@@ -48,11 +40,6 @@ pub enum Parsed {
 }
 
 // What a reader answers: a value, and where the reading stands after it.
-struct PlainRead {
-    plain: Plain,
-    next: Cursor,
-}
-
 struct CallRead {
     parsed: Parsed,
     next: Cursor,
@@ -82,62 +69,22 @@ fn clear_of(r: ClearRead) -> CallRead
 
 // ---- 3 acknowledge, 4 suppress, and 5, 6 the same with policy
 
-fn plain_at(call: &[u8], at: Cursor) -> PlainRead
-    ensures { λ r. ⌜ Reads (now (call .entry)) at plainFields (plainValue (now (call .entry)) (r .plain)) (r .next) × within (now (call .entry)) shortLimit (r .plain .id) ⌝ }
+fn plain_at(call: &[u8], at: Cursor, action: Action) -> CallRead
+    ensures { λ r. ⌜ Says (now (call .entry)) at (into (CallValue.plain (actionOf action)) plainFields) r ⌝ }
 {
-    let time = fields::number_at(call, at, 8);
-    let at = time.next;
-    let id = fields::text_at(call, at, Record::SHORT);
-    let at = id.next;
-    let id = id.text;
-    let authorised = fields::choice_at(call, at, 0, 1);
-    let at = authorised.next;
-    PlainRead {
-        plain: Plain {
-            time: time.value,
-            id: id,
-            authorised: authorised.value,
-        },
-        next: at,
-    }
-}
-
-fn acknowledge_of(r: PlainRead) -> CallRead
-    ensures { λ c. ⌜ (c .parsed ≡ Parsed.Acknowledge (r .plain)) × (c .next ≡ r .next) ⌝ }
-{
-    let PlainRead { plain, next } = r;
+    let PlainRead { plain, next } = action_fields::plain_at(call, at);
     CallRead {
-        parsed: Parsed::Acknowledge(plain),
+        parsed: Parsed::Plain(action, plain),
         next: next,
     }
 }
 
-fn suppress_of(r: PlainRead) -> CallRead
-    ensures { λ c. ⌜ (c .parsed ≡ Parsed.Suppress (r .plain)) × (c .next ≡ r .next) ⌝ }
+fn policy_at(call: &[u8], at: Cursor, action: Action) -> CallRead
+    ensures { λ r. ⌜ Says (now (call .entry)) at (into (CallValue.policy (actionOf action)) policyFields) r ⌝ }
 {
-    let PlainRead { plain, next } = r;
+    let PolicyRead { policy, next } = action_fields::policy_at(call, at);
     CallRead {
-        parsed: Parsed::Suppress(plain),
-        next: next,
-    }
-}
-
-fn acknowledge_policy_of(r: PolicyRead) -> CallRead
-    ensures { λ c. ⌜ (c .parsed ≡ Parsed.AcknowledgePolicy (r .policy)) × (c .next ≡ r .next) ⌝ }
-{
-    let PolicyRead { policy, next } = r;
-    CallRead {
-        parsed: Parsed::AcknowledgePolicy(policy),
-        next: next,
-    }
-}
-
-fn suppress_policy_of(r: PolicyRead) -> CallRead
-    ensures { λ c. ⌜ (c .parsed ≡ Parsed.SuppressPolicy (r .policy)) × (c .next ≡ r .next) ⌝ }
-{
-    let PolicyRead { policy, next } = r;
-    CallRead {
-        parsed: Parsed::SuppressPolicy(policy),
+        parsed: Parsed::Policy(action, policy),
         next: next,
     }
 }
@@ -211,10 +158,10 @@ fn operation_at(call: &[u8], at: Cursor, op: u8) -> CallRead
     match op {
         1 => raise_of(raise_fields::raise_at(call, at)),
         2 => clear_of(raise_fields::clear_at(call, at)),
-        3 => acknowledge_of(plain_at(call, at)),
-        4 => suppress_of(plain_at(call, at)),
-        5 => acknowledge_policy_of(action_fields::policy_at(call, at)),
-        6 => suppress_policy_of(action_fields::policy_at(call, at)),
+        3 => plain_at(call, at, Action::Acknowledge),
+        4 => plain_at(call, at, Action::Suppress),
+        5 => policy_at(call, at, Action::Acknowledge),
+        6 => policy_at(call, at, Action::Suppress),
         7 => expire_of(fields::number_at(call, at, 8)),
         8 => active_at(call, at),
         9 => history_at(call, at),

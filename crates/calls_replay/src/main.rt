@@ -1,12 +1,13 @@
 // Reads calls from the standard input, each behind its length in four bytes, and writes a line for each: what the parser says of it.
 // The files `stdin` and `stdout` of this crate are made by `python3 tests/calls/make.py`, which reads the calls by document 01 in a way
 // of its own; tests/calls/reading.py says how a line is written.
+use action_fields::Plain;
 use action_fields::Policy;
 use action_fields::Scope;
 use call::Parsed;
-use call::Plain;
 use libc::STDIN_FILENO;
 use libc::STDOUT_FILENO;
+use model::Action;
 use model::AffectedObject;
 use model::CauseSpan;
 use model::KeyFields;
@@ -43,6 +44,14 @@ fn say_operation(op: u8) {
         11 => say(b"summary"),
         12 => say(b"take-audit"),
         _ => say(b"refused"),
+    }
+}
+
+// The word of an action, which one of two operations does.
+fn say_action(action: Action, acknowledge: u8, suppress: u8) {
+    match action {
+        Action::Acknowledge => say_operation(acknowledge),
+        Action::Suppress => say_operation(suppress),
     }
 }
 
@@ -189,8 +198,8 @@ fn show_clear(call: &[u8], c: Clear) {
     show_key(call, k);
 }
 
-fn show_plain(call: &[u8], op: u8, p: Plain) {
-    say_operation(op);
+fn show_plain(call: &[u8], action: Action, p: Plain) {
+    say_action(action, 3, 4);
     show_number(p.time);
     show_string(call, p.id);
     show_number(p.authorised as u64);
@@ -204,14 +213,14 @@ fn show_scope(call: &[u8], s: Scope) {
     }
 }
 
-fn show_policy(call: &[u8], op: u8, p: Policy) {
+fn show_policy(call: &[u8], action: Action, p: Policy) {
     let a = p.actor;
     let r = p.request;
     let v = p.verdict;
     let tenant = a.tenant;
     let scope = r.scope;
     let correlation = r.correlation;
-    say_operation(op);
+    say_action(action, 5, 6);
     show_number(a.time);
     show_string(call, a.id);
     show_string(call, a.principal);
@@ -236,10 +245,8 @@ fn show(call: &[u8]) {
     match call::parse(call) {
         Parsed::Raise(r) => show_raise(call, r),
         Parsed::Clear(c) => show_clear(call, c),
-        Parsed::Acknowledge(p) => show_plain(call, 3, p),
-        Parsed::Suppress(p) => show_plain(call, 4, p),
-        Parsed::AcknowledgePolicy(p) => show_policy(call, 5, p),
-        Parsed::SuppressPolicy(p) => show_policy(call, 6, p),
+        Parsed::Plain(action, p) => show_plain(call, action, p),
+        Parsed::Policy(action, p) => show_policy(call, action, p),
         Parsed::Expire(t) => show_numbered(7, t),
         Parsed::Active(v) => show_numbered(8, v as u64),
         Parsed::History { tenant, slice } => show_history(call, tenant, slice),

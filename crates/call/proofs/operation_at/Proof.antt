@@ -21,28 +21,20 @@ returns-2 c =
     rw (c .clear-of .ensures .0, c .clear-of .ensures .1, c .before .before .match .keys2) (step _ (read .0) done, read .1)
 
 returns-3 : tie.Need-returns-3
-unfolding fieldsOf into
-returns-3 c =
-    let read = c .before .plain-at .ensures in
-    rw (c .acknowledge-of .ensures .0, c .acknowledge-of .ensures .1, c .before .before .match .keys3) (step _ (read .0) done, read .1)
+unfolding fieldsOf
+returns-3 c = rw (c .before .match .keys3) (c .plain-at .ensures)
 
 returns-4 : tie.Need-returns-4
-unfolding fieldsOf into
-returns-4 c =
-    let read = c .before .plain-at2 .ensures in
-    rw (c .suppress-of .ensures .0, c .suppress-of .ensures .1, c .before .before .match .keys4) (step _ (read .0) done, read .1)
+unfolding fieldsOf
+returns-4 c = rw (c .before .match .keys4) (c .plain-at2 .ensures)
 
 returns-5 : tie.Need-returns-5
-unfolding fieldsOf into
-returns-5 c =
-    let read = c .before .policy-at .ensures in
-    rw (c .acknowledge-policy-of .ensures .0, c .acknowledge-policy-of .ensures .1, c .before .before .match .keys5) (step _ (read .0) done, read .1)
+unfolding fieldsOf
+returns-5 c = rw (c .before .match .keys5) (c .policy-at .ensures)
 
 returns-6 : tie.Need-returns-6
-unfolding fieldsOf into
-returns-6 c =
-    let read = c .before .policy-at2 .ensures in
-    rw (c .suppress-policy-of .ensures .0, c .suppress-policy-of .ensures .1, c .before .before .match .keys6) (step _ (read .0) done, read .1)
+unfolding fieldsOf
+returns-6 c = rw (c .before .match .keys6) (c .policy-at2 .ensures)
 
 returns-7 : tie.Need-returns-7
 unfolding fieldsOf into
@@ -85,10 +77,6 @@ pub operation-at-spec : {M : Type 1} → statement M
 operation-at-spec =
     tie.close
     (tie.spec
-    (λ c κs. search needs)
-    (λ c κs. search needs)
-    (λ c κs. search needs)
-    (λ c κs. search needs)
     (λ c κs. search needs)
     (λ c κs. search needs)
     (λ c κs. search needs)

@@ -1,17 +1,11 @@
--- Time, id and a flag.
-use Rattle.definition.specs.Parse.{plainFields}
-use Rattle.fields.specs.CursorLaws.{done, step}
+-- The fields, with their action.
+use Rattle.fields.specs.CursorLaws.{becomes}
 use borrow.Author.Needs.{needs}
 use Rattle.call.proofs.plain_at.Statement.{statement}
 use Rattle.call.proofs.plain_at.Tie as tie
 
 returns : tie.Need-returns
-unfolding plainFields
-returns c =
-    let time = c .before .before .before .number-at .ensures in
-    let id = c .before .before .text-at .ensures in
-    let authorised = c .choice-at .ensures in
-    (step _ (time .0) (step _ (id .0) (step _ authorised done)), id .1)
+returns c = let read = c .before .plain-at .ensures in (becomes _ (read .0), read .1)
 
 pub plain-at-spec : {M : Type 1} → statement M
-plain-at-spec = tie.close (tie.spec (λ c κs. search needs) (λ c κs. search needs) (λ c κs. search needs) returns)
+plain-at-spec = tie.close (tie.spec (λ c κs. search needs) returns)
