@@ -28,7 +28,13 @@ fn step(register: &mut [u8], call: &[u8], answer: &mut [u8]) -> Reply
         (now (register .exit)) ⌝ }
 {
     match register_check::check(register) {
-        Soundness::Sound(ends) => operations::perform(register, ends, call, call::parse(call), answer),
+        Soundness::Sound(ends) => operations::perform(
+            register,
+            ends,
+            call,
+            call::parse(call),
+            answer,
+        ),
         Soundness::Unsound => Reply::Refused(22),
     }
 }

@@ -1,6 +1,7 @@
 -- `insert`: an id that is active is refused; else the new alarm is stored.
 use mathlib.Core.Path.{refl, sym, _∙_}
 use borrow.Author.Needs.{needs}
+use Rattle.history.specs.StandingLaws.{standing-newest}
 use denote.Ref.{now}
 use Rattle.raise_fields.specs.Meaning.{raiseValue}
 use Rattle.raising.specs.RaiseLaws.{id-taken, new-payload, stores-new}

@@ -2,6 +2,7 @@
 use mathlib.Core.Path.{_∙_}
 use native.Mathlib.Omega.{arith}
 use borrow.Author.Needs.{needs}
+use Rattle.history.specs.StandingLaws.{standing-room}
 use denote.Ref.{now}
 use Rattle.definition.specs.Laws.Steps.Chains.{active-limit, active-length}
 use Rattle.history.specs.FoundLaws.{header-room}
@@ -36,7 +37,7 @@ insert-requires c κs =
     let s = g .before .before .before .before .before .before in
     let b = now (s .args .register) in
     let x = s .pre .0 .standing .whole in
-    (s .pre .0, record { is = s .pre .1; room = omega (arith, i .if1 .left, g .get32 .ensures, h .held .ensures, active-limit b x, active-length b x) }, s .pre .2)
+    (s .pre .0, standing-room (s .pre .0 .standing) (omega (arith, i .if1 .left, g .get32 .ensures, h .held .ensures, active-limit b x, active-length b x)), s .pre .1)
 
 returns-2 : tie.Need-returns-2
 returns-2 c =
@@ -47,7 +48,7 @@ returns-2 c =
     let s = g .before .before .before .before .before .before in
     let b = now (s .args .register) in
     let x = s .pre .0 .standing .whole in
-    has-room (raiseValue (now (s .args .call)) (s .args .r)) (now (s .args .key)) b x (n .insert .result) (n .insert .last .0) (now (s .args .answer)) (n .insert .last .1 .1 .1 .1 .1 .1 .0)
+    has-room (raiseValue (now (s .args .call)) (s .args .r)) (now (s .args .key)) b x (n .insert .result) (n .insert .last .0) (now (s .args .answer)) (n .insert .last .1 .1 .1 .1 .1 .0)
     (omega (arith, i .if1 .left, g .get32 .ensures, h .held .ensures, active-limit b x, active-length b x)) (n .insert .ensures)
 
 pub raise-new-spec : {M : Type 1} → statement M

@@ -1,5 +1,6 @@
 -- `update`: the payload is taken out, changed by the raise and put back.
 use borrow.Author.Needs.{needs}
+use Rattle.history.specs.StandingLaws.{standing-newest}
 use denote.Ref.{now}
 use Rattle.raise_fields.specs.Meaning.{raiseValue}
 use Rattle.raising.specs.RaiseLaws.{updated-payload, updates}
