@@ -13,7 +13,7 @@ use Rattle.definition.specs.Alarm.{Alarm, Event}
 use Rattle.definition.specs.Record.{alarmBytes}
 use Rattle.definition.specs.Station.{Step}
 use Rattle.definition.specs.Answer.{Answer, Head, head, headOf, headBytes, alarmRecord, eventRecord, eventRecords, body, answerBytes}
-use Rattle.definition.specs.Laws.Steps.AnswerLength.{length-head}
+use Rattle.definition.specs.Laws.Steps.Answers.{length-head}
 use Rattle.definition.specs.Contracts.Does.{Does, Answers}
 
 -- ---- which answer a head and a body are

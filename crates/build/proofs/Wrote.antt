@@ -5,7 +5,7 @@ use Prim.Native.Nat.{ℕ, _+_, _≤_}
 use native.Mathlib.Omega.{arith}
 use lib.ListN.{length}
 use Rattle.octets.specs.Bytes.{Bytes, splice}
-use Rattle.definition.specs.Slot.{join, total}
+use Rattle.definition.specs.Slot.{join, totalWidth}
 use Rattle.octets.specs.SpliceLaws.{splice-whole}
 use Rattle.definition.specs.Laws.Record.Join.{Fits, length-join, laid, laid-join}
 
@@ -26,7 +26,7 @@ lays done = refl
 lays (slot {at} {w} {ws} {ps = ps} e l r) = lays r ∙ ap (laid (at + w) ws ps) e
 
 -- they are one splice
-pub wrote : {at : ℕ} {ws : List ℕ} {ps : List Bytes} {b c : Bytes} → Wrote at ws ps b c → at + total ws ≤ length b → c ≡ splice b at (join ps)
+pub wrote : {at : ℕ} {ws : List ℕ} {ps : List Bytes} {b c : Bytes} → Wrote at ws ps b c → at + totalWidth ws ≤ length b → c ≡ splice b at (join ps)
 wrote {at} {ws} {ps} {b} w h = lays w ∙ laid-join at ws ps b (fits w) h
 
 -- ---- stretches of slots
@@ -50,8 +50,8 @@ join-all [] = refl
 join-all (ps ∷ pss) = ap (λ (x : Bytes). join ps ++ x) (join-all pss) ∙ sym (join-append ps (all pss))
 
 -- stretches that fill the bytes
-pub filled : (pss : List (List Bytes)) {ws : List ℕ} {b c : Bytes} → Wrote 0 ws (joinEach pss) b c → total ws ≡ length b → c ≡ join (all pss)
+pub filled : (pss : List (List Bytes)) {ws : List ℕ} {b c : Bytes} → Wrote 0 ws (joinEach pss) b c → totalWidth ws ≡ length b → c ≡ join (all pss)
 filled pss {ws} {b} w h =
     let e = join-all pss in
-    let l : length (join (all pss)) ≡ total ws = sym (ap length e) ∙ length-join ws (joinEach pss) (fits w) in
+    let l : length (join (all pss)) ≡ totalWidth ws = sym (ap length e) ∙ length-join ws (joinEach pss) (fits w) in
     wrote w (omega arith) ∙ ap (splice b 0) e ∙ splice-whole b (join (all pss)) (l ∙ h)

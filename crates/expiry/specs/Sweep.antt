@@ -4,7 +4,8 @@ use mathlib.Core.Path.{_≡_}
 use mathlib.Core.List.{List, map}
 use lib.ListN.{length}
 use Rattle.octets.specs.Bytes.{Bytes, at32}
-use Rattle.definition.specs.Chain.{Entry, onContent, those, lastOf}
+use Rattle.definition.specs.Contracts.LegalBook.{lastOf}
+use Rattle.definition.specs.Chain.{Entry, onContent, those}
 use Rattle.definition.specs.Alarm.{Alarm}
 use Rattle.definition.specs.Record.{readAlarm}
 use Rattle.definition.specs.Book.{Record, readBook}

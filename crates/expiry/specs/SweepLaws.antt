@@ -10,14 +10,15 @@ use lib.Dec.{T}
 use lib.ListN.{length, drop}
 use Rattle.octets.specs.Bytes.{Bytes, at32}
 use Rattle.octets.specs.Put.{Put}
-use Rattle.definition.specs.Chain.{Entry, onContent, entry, those, without, lastOf, times}
+use Rattle.definition.specs.Contracts.LegalBook.{lastOf}
+use Rattle.definition.specs.Chain.{Entry, onContent, entry, those, without, times}
 use Rattle.definition.specs.Laws.Book.Contents.{without-map}
 use Rattle.definition.specs.Alarm.{Alarm, isDue}
-use Rattle.definition.specs.Record.{lastState, alarmBytes, readAlarm}
+use Rattle.definition.specs.Record.{lastActive, lastState, alarmBytes, readAlarm}
 use Rattle.definition.specs.Book.{Record, recordOf, readBook}
 use Rattle.definition.specs.Laws.Book.Split.{lastFrom, last-from-zero}
 use Rattle.definition.specs.Laws.Book.SoundNumbers.{length-at}
-use Rattle.definition.specs.Contracts.LegalFields.{Time}
+use Rattle.definition.specs.Contracts.LegalFields.{Time, LegalAlarm}
 use Rattle.definition.specs.Laws.Steps.ChangedLegal.{expired-legal}
 use Rattle.definition.specs.Station.{Step, give, forEach}
 use Rattle.definition.specs.Laws.Steps.LegalSteps.{retire-legal}
@@ -34,7 +35,7 @@ use Rattle.history.specs.DoesLaws.{does-then, does-give, does-look, does-end}
 use Rattle.history.specs.Walk.{alarmAt}
 use Rattle.history.specs.WalkLaws.{along-start, along-here, along-parts, along-on, along-once, along-fits, along-link, along-next}
 use Rattle.history.specs.CountLaws.{those-hit, those-miss}
-use Rattle.history.specs.FoundLaws.{changed-payload, on-station}
+use Rattle.history.specs.FoundLaws.{changed-payload, on-station, on-alarm, payload-legal}
 use Rattle.answers.specs.AnswerLaws.{answers-put}
 use Rattle.expiry.specs.Sweep.{dueOf, Swept, Sweep}
 use Rattle.expiry.specs.declared.Stand.{Stand}
@@ -90,10 +91,10 @@ book-active : (b : Bytes) → T (sound b) → readBook b .active ≡ map (onCont
 unfolding bookOf
 book-active b h = ap (λ k. k .active) (sym (sound-holds b h .read))
 
-gone : (b c : Bytes) (i : ℕ) (a : Alarm) → T (sound b) → OnActive b i → Does (retire i a) b c tt → readBook c .active ≡ without i (readBook b .active)
-gone b c i a h o d =
+gone : (b c : Bytes) (i : ℕ) (a : Alarm) → LegalAlarm 5 a → T (sound b) → OnActive b i → Does (retire i a) b c tt → readBook c .active ≡ without i (readBook b .active)
+gone b c i a p h o d =
     book-active c (d .sound)
-    ∙ ap (map (onContent alarmBytes)) (does-end d (retire-legal (station b) (sound-holds b h .legal .chains) i a (on-station b i o)) .1)
+    ∙ ap (map (onContent alarmBytes)) (does-end d (retire-legal (station b) (sound-holds b h .legal) i a p (on-station b i o)) .1)
     ∙ sym (without-map alarmBytes i (station b .active))
     ∙ ap (without i) (sym (book-active b h))
 
@@ -168,9 +169,11 @@ module _ (cutoff : ℕ) (b₀ b : Bytes) (n at : ℕ) (s : Stand) (k : ℕ) (w :
         }
 
     pub sweep-due :
-        isDue cutoff alarm ≡ true → (c : Bytes) (new : ℕ) → Files (retire at (expiredBy cutoff alarm)) b c new → (r : ℕ) → r ≡ at32 b (1536 * at) →
+        Time cutoff → isDue cutoff alarm ≡ true → (c : Bytes) (new : ℕ) → Files (retire at (expiredBy cutoff alarm)) b c new → (r : ℕ) → r ≡ at32 b (1536 * at) →
         Sweep cutoff b₀ c n r (record { ends = record { active = s .ends .active; history = new; audit = s .ends .audit }; kept = s .kept; expired = s .expired + 1 }) (k + 1)
-    sweep-due is-due c new f r e =
+    sweep-due t is-due c new f r e =
+        let on = along-on (w .along) ahead in
+        let legal = expired-legal cutoff alarm t (payload-legal lastActive (here .content) (on-alarm b (w .newest .whole) at on .legal)) in
         let d : dueOf cutoff (w .rest) ≡ entry at alarm ∷ dueOf cutoff behind = due-rest ∙ those-hit (isDueEntry cutoff) (entry at alarm) _ is-due in
         record {
           newest = record { whole = f .does .sound; is = f .is };
@@ -180,7 +183,7 @@ module _ (cutoff : ℕ) (b₀ b : Bytes) (n at : ℕ) (s : Stand) (k : ℕ) (w :
             whole = f .does .sound;
             which = omega arith;
             parts =
-                gone b c at (expiredBy cutoff alarm) (w .newest .whole) (along-on (w .along) ahead) (f .does)
+                gone b c at (expiredBy cutoff alarm) legal (w .newest .whole) on (f .does)
                 ∙ ap (without at) (along-parts (w .along) ahead) ∙ without-at here behind (w .kept) once;
             starts = along-link (w .along) ahead e;
           };

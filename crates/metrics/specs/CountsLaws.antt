@@ -13,7 +13,7 @@ use Rattle.definition.specs.Answer.{Answer, Counts, headOf, headBytes, countEnt
 use Rattle.definition.specs.Reports.{Rating, rating, countOf, firstsFrom, tally, counts}
 use Rattle.definition.specs.Perform.{inLength}
 use Rattle.definition.specs.Sound.{station, sound}
-use Rattle.definition.specs.Laws.Steps.AnswerLength.{length-answer}
+use Rattle.definition.specs.Laws.Steps.Answers.{length-answer}
 use Rattle.definition.specs.Contracts.Does.{Does, Answers, Refuses}
 use Rattle.history.specs.DoesLaws.{does-look}
 use Rattle.history.specs.WalkLaws.{reached-length}

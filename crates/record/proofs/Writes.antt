@@ -5,7 +5,7 @@ use lib.ListN.{length, getD, set}
 use Rattle.octets.specs.Bytes.{Bytes, splice}
 use Rattle.definition.specs.Alarm.{Alarm}
 use Rattle.definition.specs.Laws.Record.Join.{offset}
-use Rattle.definition.specs.Laws.Record.Record.{alarmWidths, alarmPieces}
+use Rattle.definition.specs.Laws.Record.Payloads.{alarmWidths, alarmPieces}
 use Rattle.definition.specs.Laws.Record.ChangedSlot.{slot-law}
 use Rattle.record.specs.Change.{Becomes}
 

@@ -17,7 +17,7 @@ use Rattle.definition.specs.Laws.Book.LegalChange.{fair}
 use Rattle.definition.specs.Laws.Book.ChangedChain.{total-on}
 use Rattle.definition.specs.Laws.Book.Occurrences.{times-cons, times-hit, times-miss}
 use Rattle.definition.specs.Contracts.Moves.{prevOf, CanRelease}
-use Rattle.definition.specs.Contracts.LegalBook.{Sound, chain}
+use Rattle.definition.specs.Contracts.LegalBook.{SoundBook, chain}
 use Rattle.register.specs.declared.Found.{Found}
 use Rattle.register.specs.declared.Found.the-variants.{At, Nowhere}
 use Rattle.register.specs.Search.{firstIn, holdsKey, holdsId}
@@ -102,7 +102,7 @@ seen f q i p (e ∷ c) h = go (f (e .content)) refl (seen f (e .index) i p c)
         }
 
 -- what the moves ask of a record that was found
-module _ (f : Bytes → Bool) (b : Bytes) (x i p : ℕ) (sound : Sound b) (hx : x < 3) (found : firstIn f 0 (chain x (readBook b)) ≡ At i p) where
+module _ (f : Bytes → Bool) (b : Bytes) (x i p : ℕ) (sound : SoundBook b) (hx : x < 3) (found : firstIn f 0 (chain x (readBook b)) ≡ At i p) where
   pub can-release-found : CanRelease b x i p
   can-release-found =
       let w = seen f 0 i p (chain x (readBook b)) found in

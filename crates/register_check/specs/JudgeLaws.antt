@@ -10,15 +10,13 @@ use Rattle.octets.specs.BlankLaws.{blank→zeros, blank-zeros}
 use Rattle.octets.specs.PartLaws.{part-length}
 use Rattle.octets.specs.BoolLaws.{both, both-left, both-right, holds, fails, true-holds}
 use Rattle.definition.specs.Book.{capacity, every, soundBook, readBook}
-use Rattle.definition.specs.Contracts.LegalBook as L
 use Rattle.definition.specs.Laws.Book.CheckSound.{chain-read, check-sound}
 use Rattle.definition.specs.Laws.Book.CheckComplete.{sound-checked}
 use Rattle.definition.specs.Laws.Book.BookTests.{zeroed-to, zeroed-from, sound-to, sound-from}
 use Rattle.definition.specs.Laws.Book.CheckParts.{chained-decides}
 use Rattle.definition.specs.Sound.{activeSound, historySound, auditSound, soundRecords, sound}
-use Rattle.definition.specs.Chain.{lastOf}
 use Rattle.definition.specs.Contracts.Check.{Leads, Chained, PassesCheck, Decides, Apart}
-use Rattle.definition.specs.Contracts.LegalBook.{chain}
+use Rattle.definition.specs.Contracts.LegalBook.{chain, lastOf, SoundBook}
 use Rattle.register_check.specs.Meaning.{EndsAt, Chain, Headed, Heads, passes, number}
 use Rattle.register_check.specs.declared.Kind.{Kind}
 use Rattle.register_check.specs.declared.Kind.the-variants.{Active, History, Audit, Free}
@@ -64,7 +62,7 @@ apart-decides p q r t true true true true true true da db dc dd de df = record {
 -- ---- what sound bytes have, and what therefore shows that bytes are not sound
 
 module _ (b : Bytes) (s : T (sound b)) where
-  book : L.Sound b
+  book : SoundBook b
   unfolding sound
   book = sound-to b (both-left (soundBook b) (soundRecords (readBook b)) s)
 
@@ -76,7 +74,7 @@ module _ (b : Bytes) (s : T (sound b)) where
   payloads Active = both-left (activeSound (readBook b)) _ (both-right (soundBook b) _ s)
   payloads History = both-left (historySound (readBook b)) _ (both-right (activeSound (readBook b)) _ (both-right (soundBook b) _ s))
   payloads Audit = both-right (historySound (readBook b)) _ (both-right (activeSound (readBook b)) _ (both-right (soundBook b) _ s))
-  payloads Free = zeroed-from (readBook b .free) (book .legal .blank)
+  payloads Free = zeroed-from (readBook b .free) (book .legal .zeroed)
 
   whole : Headed b (capacity (readBook b))
   whole = record { room = refl; numbers = checked .numbers; tail = checked .tail }
@@ -120,6 +118,6 @@ module _ (b : Bytes) (m : ℕ) (h : Headed b m) where
     pub judged : Octets b → (y : Bool) → Decides y (Apart p q r t) → sound b ≡ y
     unfolding sound
     judged byte true d =
-        let s = check-sound b (record { numbers = h .numbers; chained = chained true d; tail = h .tail; blank = zeroed-to (readBook b .free) (passed Free t wt) }) byte in
+        let s = check-sound b (record { numbers = h .numbers; chained = chained true d; tail = h .tail; zeroed = zeroed-to (readBook b .free) (passed Free t wt) }) byte in
         holds (sound b) (both (soundBook b) _ (sound-from b s) records)
     judged byte false d = fails (sound b) (λ s. chained false d (checked b s .chained))

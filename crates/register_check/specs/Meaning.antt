@@ -7,9 +7,8 @@ use Rattle.octets.specs.Bytes.{Bytes, same, zeros, at32}
 use Rattle.definition.specs.Record.{lastActive, lastState, soundAlarm, soundEvent}
 use Rattle.definition.specs.Book.{Record, payloadWidth, capacity, walk, every, readBook}
 use Rattle.definition.specs.Sound.{sound}
-use Rattle.definition.specs.Chain.{lastOf}
 use Rattle.definition.specs.Contracts.Check.{Leads, Numbers}
-use Rattle.definition.specs.Contracts.LegalBook.{chain}
+use Rattle.definition.specs.Contracts.LegalBook.{chain, lastOf}
 use Rattle.register_check.specs.declared.Soundness.{Soundness}
 use Rattle.register_check.specs.declared.Soundness.the-variants.{Sound, Unsound}
 use Rattle.register.specs.declared.Ends.{Ends}

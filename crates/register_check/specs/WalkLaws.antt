@@ -8,7 +8,7 @@ use lib.ListN.{length, take, drop}
 use Rattle.octets.specs.Bytes.{Bytes, same, zeros, blank, at32}
 use Rattle.definition.specs.Book.{Record, payloadWidth, recordOf, walk, every}
 use Rattle.definition.specs.Laws.Book.LinkLoops.{Went, went-start, went-on, went-end}
-use Rattle.definition.specs.Chain.{lastOf}
+use Rattle.definition.specs.Contracts.LegalBook.{lastOf}
 use Rattle.definition.specs.Contracts.Check.{Leads}
 use Rattle.register_check.specs.Meaning.{holds, passes}
 use Rattle.register_check.specs.declared.Kind.{Kind}

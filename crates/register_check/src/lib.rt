@@ -5,7 +5,7 @@ ghost use lib.ListN.{length};
 ghost use Rattle.definition.specs.Limits.{recordWidth};
 ghost use Rattle.definition.specs.Book.{payloadWidth};
 ghost use Rattle.definition.specs.Contracts.LegalBook.{Limit};
-ghost use Rattle.definition.specs.Contracts.Check.{Decides, Counts, Apart};
+ghost use Rattle.definition.specs.Contracts.Check.{Decides, Lengths, Apart};
 ghost use Rattle.record_check.specs.Ruler.{rulerBytes};
 ghost use Rattle.register_check.specs.Meaning.{Chain, Gives, Headed, Heads, Linked, Walks, holds, number};
 use model::Record;
@@ -156,7 +156,7 @@ fn limits_ok(a: u32, h: u32, e: u32) -> bool
 // Whether the chains' lengths are within the limits, and make up their sum.
 fn counts_ok(register: &[u8], a: u32, h: u32, e: u32) -> bool
     requires { ⌜ (recordWidth ≤ length (now register)) × (a ≤ 65535) × (h ≤ 65535) × (e ≤ 65535) ⌝ }
-    ensures { λ r. ⌜ Decides r (Counts (now (register .entry)) a h e) ⌝ }
+    ensures { λ r. ⌜ Decides r (Lengths (now (register .entry)) a h e) ⌝ }
 {
     let active = octets::get32(register, 16);
     if a < active {

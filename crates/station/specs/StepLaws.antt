@@ -13,7 +13,7 @@ use Rattle.definition.specs.Station.{_>>=_}
 use Rattle.definition.specs.Reports.{activeList, historyList, counts, takeAudit}
 use Rattle.definition.specs.Perform.{inLength, perform}
 use Rattle.definition.specs.Sound.{station, sound}
-use Rattle.definition.specs.Laws.Steps.Chains.{active-last, history-last, audit-last}
+use Rattle.definition.specs.Laws.Steps.SoundChains.{active-last, history-last, audit-last}
 use Rattle.definition.specs.Laws.Steps.Replies.{answers-give, refuses-give}
 use Rattle.definition.specs.Lists.{stepOf, replyOf}
 use Rattle.definition.specs.Claim.{Stepped, Gives}

@@ -12,14 +12,14 @@ use Rattle.definition.specs.Station.{Outcome, done, stopped}
 use Rattle.definition.specs.Answer.{Answer}
 use Rattle.definition.specs.Perform.{perform}
 use Rattle.definition.specs.Laws.Twins.KeptLegal.{Answered, perform-legal}
-use Rattle.definition.specs.Laws.Text.Parse.{call-legal}
+use Rattle.definition.specs.Laws.Text.ParsedLegal.{call-legal}
 use Rattle.definition.specs.Sound.{station, sound}
 use Rattle.definition.specs.Laws.Steps.SoundStation.{sound-holds, legal-sound}
 use Rattle.definition.specs.Opening.{opened, openOf}
 use Rattle.definition.specs.Lists.{replyOf, stepOf, run}
 use Rattle.definition.specs.Twins.{AtEach, TwinLists}
 use Rattle.definition.specs.Claim.{Fresh, Made, Trace, asked, AsReplied, Alike, AllOctets}
-use Rattle.definition.specs.Laws.Twins.Claim.{claim}
+use Rattle.definition.specs.Laws.Twins.ClaimHolds.{claim}
 
 -- ---- what the contracts say
 

@@ -4,7 +4,7 @@ use native.Mathlib.Omega.{arith}
 use Rattle.octets.specs.NumberLaws.{length-digits}
 use Rattle.octets.specs.PutLaws.{put-two, put-as}
 use Rattle.definition.specs.Answer.{Summary, head}
-use Rattle.definition.specs.Laws.Steps.AnswerLength.{length-head}
+use Rattle.definition.specs.Laws.Steps.Answers.{length-head}
 use Rattle.answers.specs.AnswerLaws.{answer-as}
 use borrow.Author.Needs.{needs}
 use Rattle.answers.proofs.put_summary.Statement.{statement}

@@ -2,7 +2,7 @@
 use native.Mathlib.Omega.{arith}
 use Rattle.octets.specs.PutLaws.{put-two}
 use Rattle.definition.specs.Answer.{head}
-use Rattle.definition.specs.Laws.Steps.AnswerLength.{length-head}
+use Rattle.definition.specs.Laws.Steps.Answers.{length-head}
 use borrow.Author.Needs.{needs}
 use Rattle.answers.proofs.put_text.Statement.{statement}
 use Rattle.answers.proofs.put_text.Tie as tie

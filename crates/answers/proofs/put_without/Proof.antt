@@ -7,7 +7,7 @@ use Rattle.octets.specs.PutLaws.{put-two, put-as}
 use Rattle.definition.specs.Key.{string, hex}
 use Rattle.definition.specs.Laws.Text.Key.{length-hex}
 use Rattle.definition.specs.Answer.{ClearWithoutActive, head, headBytes}
-use Rattle.definition.specs.Laws.Steps.AnswerLength.{length-head}
+use Rattle.definition.specs.Laws.Steps.Answers.{length-head}
 use Rattle.model.specs.Meaning.{causePart}
 use Rattle.answers.specs.AnswerLaws.{answer-as}
 use borrow.Author.Needs.{needs}

@@ -16,7 +16,7 @@ returns : tie.Need-returns
 returns c b₀ n k r w h e =
     let x = c .before .before .before in
     let i = x .before .before in
-    sweep-due _ b₀ _ n _ _ k w h (sym (i .before .is-due .ensures) ∙ i .if1 .taken) _ _ (x .expire-at .ensures) r e
+    sweep-due _ b₀ _ n _ _ k w h (search needs) (sym (i .before .is-due .ensures) ∙ i .if1 .taken) _ _ (x .expire-at .ensures) r e
 
 returns-2 : tie.Need-returns-2
 returns-2 c b₀ n k r w h e = sweep-kept _ b₀ _ n _ _ k w h (sym (c .before .is-due .ensures) ∙ c .if1 .left) r e

@@ -4,7 +4,7 @@ use native.Mathlib.Omega.{arith}
 use borrow.Author.Needs.{needs}
 use Rattle.history.specs.StandingLaws.{standing-room}
 use denote.Ref.{now}
-use Rattle.definition.specs.Laws.Steps.Chains.{active-limit, active-length}
+use Rattle.definition.specs.Laws.Steps.SoundChains.{active-limit, active-length}
 use Rattle.history.specs.FoundLaws.{header-room}
 use Rattle.raise_fields.specs.Meaning.{raiseValue}
 use Rattle.raising.specs.RaiseLaws.{limit-met, has-room}

@@ -7,7 +7,7 @@ use lib.ListN.{take, drop}
 use Rattle.octets.specs.Bytes.{zeros, at32}
 use Rattle.definition.specs.Laws.Book.CheckParts.{confirms, refutes, capacity-read, numbers-of, size-of}
 use Rattle.definition.specs.Contracts.LegalBook.{Limit}
-use Rattle.definition.specs.Contracts.Check.{Decides, Counts}
+use Rattle.definition.specs.Contracts.Check.{Decides, Lengths}
 use Rattle.register_check.specs.JudgeLaws.{tail-decides}
 use borrow.Author.Needs.{needs}
 use Rattle.register_check.proofs.header.Statement.{statement}
@@ -24,11 +24,11 @@ limits c = confirms (c .before .limits-ok .result) (c .before .limits-ok .ensure
 counts :
     (c : tie.After-counts-ok) →
     let b = c .before .before .before .before .before .before .before .before .args .register .now in
-    Decides (c .counts-ok .result) (Counts b (at32 b 0) (at32 b 4) (at32 b 8))
+    Decides (c .counts-ok .result) (Lengths b (at32 b 0) (at32 b 4) (at32 b 8))
 counts c =
     let b = c .before .before .before .before .before .before .before .before .args .register .now in
     let g = c .before .before .before in
-    subst₃ (λ (x y z : ℕ). Decides (c .counts-ok .result) (Counts b x y z)) (g .before .before .get32 .ensures) (g .before .get322 .ensures) (g .get323 .ensures) (c .counts-ok .ensures)
+    subst₃ (λ (x y z : ℕ). Decides (c .counts-ok .result) (Lengths b x y z)) (g .before .before .get32 .ensures) (g .before .get322 .ensures) (g .get323 .ensures) (c .counts-ok .ensures)
 
 -- what `is_blank` said
 tail :
@@ -43,7 +43,7 @@ counts-ok-requires : tie.Need-counts-ok-requires
 counts-ok-requires c κs = omega (arith, limits c)
 
 returns-3 : tie.Need-returns-3
-returns-3 c = λ m h. refutes (c .before .counts-ok .result) (counts (c .before)) (not-true _ (c .if3 .taken)) (h .numbers .counts)
+returns-3 c = λ m h. refutes (c .before .counts-ok .result) (counts (c .before)) (not-true _ (c .if3 .taken)) (h .numbers .lengths)
 
 add-capacity : tie.Need-add-capacity
 add-capacity c = omega (arith, limits (c .before .before))

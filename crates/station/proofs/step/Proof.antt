@@ -8,7 +8,7 @@ use Rattle.octets.specs.Bytes.{Bytes}
 use Rattle.definition.specs.Value.{CallValue}
 use Rattle.definition.specs.Contracts.LegalFields.{LegalCall}
 use Rattle.definition.specs.Perform.{perform}
-use Rattle.definition.specs.Laws.Text.Parse.{call-legal}
+use Rattle.definition.specs.Laws.Text.ParsedLegal.{call-legal}
 use Rattle.register_check.specs.declared.Soundness.{Soundness}
 use Rattle.register_check.specs.Meaning.{Gives}
 use Rattle.reply.specs.Meaning.{Replies}

@@ -1,7 +1,7 @@
 -- Three parts, one behind the other.
 use Rattle.definition.specs.Slot.{option}
 use Rattle.definition.specs.Record.{short}
-use Rattle.definition.specs.Laws.Record.Record.{is-place}
+use Rattle.definition.specs.Laws.Record.Payloads.{is-place}
 use Rattle.model.specs.Meaning.{part, optPart}
 use Rattle.build.proofs.Lent.{object-wrote}
 use borrow.Author.Needs.{needs}

@@ -10,8 +10,7 @@ use Rattle.definition.specs.Laws.Book.Split.{lastFrom, last-from-zero}
 use Rattle.definition.specs.Laws.Book.SoundNumbers.{length-sound}
 use Rattle.definition.specs.Laws.Book.CheckSound.{chain-read}
 use Rattle.definition.specs.Laws.Book.CheckComplete.{sound-checked}
-use Rattle.definition.specs.Chain.{lastOf}
-use Rattle.definition.specs.Contracts.LegalBook.{Sound, chain}
+use Rattle.definition.specs.Contracts.LegalBook.{SoundBook, chain, lastOf}
 use Rattle.definition.specs.Contracts.Check.{Leads}
 
 more : (n k : ℕ) → k < n → n - k ≡ suc (n - (k + 1))
@@ -59,7 +58,7 @@ module _ {A : Type 0} (f : ℕ → List Record → A) (b : Bytes) (m n i : ℕ) 
 
 -- ---- along chain x of a sound register: n and i are its length and its first record
 
-module _ {A : Type 0} (f : ℕ → List Record → A) (b : Bytes) (sound : Sound b) (n i : ℕ) where
+module _ {A : Type 0} (f : ℕ → List Record → A) (b : Bytes) (sound : SoundBook b) (n i : ℕ) where
   pub chain-start : (x : ℕ) → x < 4 → n ≡ at32 b (16 + 8 * x) → i ≡ at32 b (12 + 8 * x) → Along f b (capacity (readBook b)) n i i 0 0
   chain-start x h hn hi =
       along-start f b (capacity (readBook b)) n i
