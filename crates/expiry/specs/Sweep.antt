@@ -27,7 +27,7 @@ pub record Swept (cutoff : ℕ) (b b′ : Bytes) (n : ℕ) : Type 0 where
 
 -- after k of n records: the register b₀ has become b, whose active chain is those kept and the rest, from record `at` on
 pub record Sweep (cutoff : ℕ) (b₀ b : Bytes) (n at : ℕ) (s : Stand) (k : ℕ) : Type 0 where
-  pub newest : Newest b (s .newest)
+  pub newest : Newest b (s .ends .history)
   pub kept : List Record
   pub rest : List Record
   pub along : Along b 0 at kept rest

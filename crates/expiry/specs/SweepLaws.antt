@@ -29,6 +29,7 @@ use Rattle.definition.specs.Laws.Steps.SoundStation.{sound-holds}
 use Rattle.definition.specs.Laws.Book.Occurrences.{times-hit, times-miss}
 use Rattle.definition.specs.Contracts.Moves.{prevOf, CanRelease}
 use Rattle.definition.specs.Contracts.Does.{Does, Answers}
+use Rattle.register.specs.declared.Ends.{Ends}
 use Rattle.history.specs.Meaning.{IsAlarm, Newest, OnActive, Files}
 use Rattle.history.specs.DoesLaws.{does-then, does-give, does-look, does-end}
 use Rattle.history.specs.Walk.{alarmAt}
@@ -100,9 +101,9 @@ gone b c i a p h o d =
 -- ---- the sweep
 
 pub sweep-start :
-    (cutoff : ℕ) (b : Bytes) (n at last : ℕ) → Newest b last → n ≡ at32 b 16 → at ≡ at32 b 12 → Sweep cutoff b b n at (record { newest = last; kept = 0; expired = 0 }) 0
+    (cutoff : ℕ) (b : Bytes) (n at : ℕ) (ends : Ends) → Newest b (ends .history) → n ≡ at32 b 16 → at ≡ at32 b 12 → Sweep cutoff b b n at (record { ends = ends; kept = 0; expired = 0 }) 0
 unfolding lastOf
-sweep-start cutoff b n at last w hn ha = record {
+sweep-start cutoff b n at ends w hn ha = record {
   newest = w;
   kept = [];
   rest = readBook b .active;
@@ -152,7 +153,7 @@ module _ (cutoff : ℕ) (b₀ b : Bytes) (n at : ℕ) (s : Stand) (k : ℕ) (w :
     due-rest : dueOf cutoff (w .rest) ≡ those (isDueEntry cutoff) (entry at alarm ∷ map (onContent readAlarm) behind)
     due-rest = ap (dueOf cutoff) (along-here (w .along) ahead)
 
-    pub sweep-kept : isDue cutoff alarm ≡ false → (r : ℕ) → r ≡ at32 b (1536 * at) → Sweep cutoff b₀ b n r (record { newest = s .newest; kept = at; expired = s .expired }) (k + 1)
+    pub sweep-kept : isDue cutoff alarm ≡ false → (r : ℕ) → r ≡ at32 b (1536 * at) → Sweep cutoff b₀ b n r (record { ends = s .ends; kept = at; expired = s .expired }) (k + 1)
     sweep-kept not-due r e =
         let d : dueOf cutoff (w .rest) ≡ dueOf cutoff behind = due-rest ∙ those-miss (isDueEntry cutoff) (entry at alarm) _ not-due in
         record {
@@ -169,7 +170,7 @@ module _ (cutoff : ℕ) (b₀ b : Bytes) (n at : ℕ) (s : Stand) (k : ℕ) (w :
 
     pub sweep-due :
         Time cutoff → isDue cutoff alarm ≡ true → (c : Bytes) (new : ℕ) → Files (retire at (expiredBy cutoff alarm)) b c new → (r : ℕ) → r ≡ at32 b (1536 * at) →
-        Sweep cutoff b₀ c n r (record { newest = new; kept = s .kept; expired = s .expired + 1 }) (k + 1)
+        Sweep cutoff b₀ c n r (record { ends = record { active = s .ends .active; history = new; audit = s .ends .audit }; kept = s .kept; expired = s .expired + 1 }) (k + 1)
     sweep-due t is-due c new f r e =
         let on = along-on (w .along) ahead in
         let legal = expired-legal cutoff alarm t (payload-legal lastActive (here .content) (on-alarm b (w .newest .whole) at on .legal)) in

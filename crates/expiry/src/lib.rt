@@ -1,4 +1,9 @@
-// Expire: each active alarm whose last update is before the cutoff goes into history, in chain order.
+// Operation 7, expire: each active alarm whose last update is before the cutoff goes into history, in chain order.
+//
+// One sweep along the active chain. Where a record is due it is taken off the chain and put into history before the next is looked at, so
+// the sweep reads the next index first: the freed record is the one that history takes. `Sweep` (specs/Sweep.antt) is what holds at each turn: the
+// register is that of the definition's step on the part that is passed, and what is left of the chain is untouched. Next: specs/SweepLaws.antt,
+// how a sweep starts, goes on and ends.
 ghost use mathlib.Core.Path.{_≡_};
 ghost use Prim.Native.Nat.{_+_, _*_, _≤_, _<_};
 ghost use lib.ListN.{length};
@@ -11,6 +16,7 @@ ghost use Rattle.history.specs.Walk.{alarmAt};
 ghost use Rattle.expiry.specs.Sweep.{Swept, Passes};
 use model::Record;
 use register::ACTIVE;
+use register::Ends;
 
 // Whether record i's alarm is due.
 fn is_due(register: &[u8], i: u32, cutoff: u64) -> bool
@@ -20,53 +26,59 @@ fn is_due(register: &[u8], i: u32, cutoff: u64) -> bool
     time::is_before(record::updated_at(history::payload(register, i)), cutoff)
 }
 
-// Active record i, which follows `previous`, expires. Gives history's newest record, which was `last`.
-fn expire_at(register: &mut [u8], i: u32, previous: u32, last: u32, cutoff: u64) -> u32
-    requires { ⌜ Newest (now register) last × CanRelease (now register) 0 i previous ⌝ }
+// Active record i, which follows `previous`, expires. Gives history's newest record.
+fn expire_at(register: &mut [u8], i: u32, previous: u32, ends: Ends, cutoff: u64) -> u32
+    requires { ⌜ Newest (now register) (ends .history) × CanRelease (now register) 0 i previous ⌝ }
     ensures { λ r. ⌜ Files (retired i (expiredBy cutoff (alarmAt (now (register .entry)) i))) (now (register .entry)) (now (register .exit)) r ⌝ }
 {
     let mut p = [0u8; Record::PAYLOAD];
     state::load(&mut p, register, i);
     changes::expired_by(&mut p, cutoff);
-    history::retire(register, i, previous, last, &p)
+    history::retire(register, i, previous, ends, &p)
 }
 
-// Where a sweep stands: history's newest record, the last active record that was kept, and how many have gone.
+// Where a sweep stands: the chains' ends, of which history's is true at each turn, the last active record that was kept, and how many have gone.
 struct Stand {
-    newest: u32,
+    ends: Ends,
     kept: u32,
     expired: u32,
 }
 
 // Record `at` expires if it is due, and is kept if not.
 fn pass(register: &mut [u8], at: u32, s: Stand, cutoff: u64) -> Stand
-    requires { ⌜ Newest (now register) (s .newest) × CanRelease (now register) 0 at (s .kept) × (s .expired < 4294967295) ⌝ }
+    requires { ⌜ Newest (now register) (s .ends .history) × CanRelease (now register) 0 at (s .kept) × (s .expired < 4294967295) ⌝ }
     ensures { λ r. ⌜ Passes cutoff (now (register .entry)) (now (register .exit)) at s r ⌝ }
 {
+    let ends = s.ends;
     if is_due(register, at, cutoff) {
-        let newest = expire_at(register, at, s.kept, s.newest, cutoff);
+        let newest = expire_at(register, at, s.kept, ends, cutoff);
+        let after = Ends {
+            active: ends.active,
+            history: newest,
+            audit: ends.audit,
+        };
         return Stand {
-            newest: newest,
+            ends: after,
             kept: s.kept,
             expired: s.expired + 1,
         };
     }
     Stand {
-        newest: s.newest,
+        ends: ends,
         kept: at,
         expired: s.expired,
     }
 }
 
 // All that are due, one by one; gives how many.
-fn sweep(register: &mut [u8], last: u32, cutoff: u64) -> u32
-    requires { ⌜ Newest (now register) last ⌝ }
+fn sweep(register: &mut [u8], ends: Ends, cutoff: u64) -> u32
+    requires { ⌜ Newest (now register) (ends .history) ⌝ }
     ensures { λ r. ⌜ Swept cutoff (now (register .entry)) (now (register .exit)) r ⌝ }
 {
     let n = history::held(register, ACTIVE);
     let mut at = history::first(register, ACTIVE);
     let mut s = Stand {
-        newest: last,
+        ends: ends,
         kept: 0,
         expired: 0,
     };
@@ -80,11 +92,10 @@ fn sweep(register: &mut [u8], last: u32, cutoff: u64) -> u32
     s.expired
 }
 
-// History's newest record is `last`.
-pub fn expire(register: &mut [u8], last: u32, cutoff: u64, answer: &mut [u8]) -> usize
-    requires { ⌜ Newest (now register) last × (1552 ≤ length (now answer)) ⌝ }
+pub fn expire(register: &mut [u8], ends: Ends, cutoff: u64, answer: &mut [u8]) -> usize
+    requires { ⌜ Newest (now register) (ends .history) × (1552 ≤ length (now answer)) ⌝ }
     ensures { λ r. ⌜ Answers (expiring cutoff) (now (register .entry)) (now (register .exit)) (now (answer .entry)) (now (answer .exit)) r ⌝ }
 {
-    let n = sweep(register, last, cutoff);
+    let n = sweep(register, ends, cutoff);
     answers::put_number(answer, n as u64)
 }

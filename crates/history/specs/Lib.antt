@@ -6,3 +6,5 @@ pub mod FoundLaws
 pub mod WalkLaws
 pub mod CountLaws
 pub mod FileLaws
+pub mod Sought
+pub mod SoughtLaws

@@ -1,14 +1,11 @@
--- What an operation starts from.
-use mathlib.Core.Path.{_≡_}
-use lib.Dec.{T}
-use Rattle.octets.specs.Bytes.{Bytes}
-use Rattle.definition.specs.Sound.{station, sound}
-use Rattle.definition.specs.Contracts.LegalBook.{lastOf}
-use Rattle.register_check.specs.declared.Lasts.{Lasts}
+-- What is left of `perform` once the answer's room was tested.
+use Prim.Native.Nat.{ℕ}
+use mathlib.Core.Bool.{cond}
+use Rattle.definition.specs.Value.{CallValue, opOf}
+use Rattle.definition.specs.Station.{Step}
+use Rattle.definition.specs.Answer.{Answer}
+use Rattle.definition.specs.Perform.{stepFor, inLength, asksRecord}
 
--- a sound register, and the last record of each chain
-pub record Standing (b : Bytes) (l : Lasts) : Type 0 where
-  pub whole : T (sound b)
-  pub active : l .active ≡ lastOf (station b .active)
-  pub history : l .history ≡ lastOf (station b .history)
-  pub audit : l .audit ≡ lastOf (station b .audit)
+-- the call's step, where there is room for a record if its operation asks for one; n is the answer slice's length
+abbrev pub withRoom : CallValue → ℕ → Step Answer
+withRoom c n = cond (asksRecord (opOf c)) (stepFor c) (inLength n (stepFor c))

@@ -1,55 +1,52 @@
--- 30: "shorter than 1,552 (ops 1 to 7, 11)".
+-- 30, "shorter than 1,552 (ops 1 to 7, 11)", as one test before the step; and the dispatch's arms in the words of the definition.
 use Prim.Native.Nat.{ℕ, _≤_, _<_}
-use mathlib.Core.Path.{_≡_, refl, ap, _∙_}
+use mathlib.Core.Path.{_≡_, refl, ap, subst}
+use mathlib.Core.Bool.{Bool, true, false, cond}
 use borrow.Author.Tests.{lt-ltb, le-ltb}
 use Rattle.octets.specs.Bytes.{Bytes}
-use Rattle.definition.specs.Value.{RaiseValue, ClearValue, PlainValue, PolicyValue, CallValue, Action, acknowledging, suppressing}
-use Rattle.definition.specs.Station.{Step}
+use Rattle.definition.specs.Value.{PlainValue, PolicyValue, CallValue, Action, acknowledging, suppressing, opOf}
+use Rattle.definition.specs.Station.{Step, _>>=_}
 use Rattle.definition.specs.Answer.{Answer}
-use Rattle.definition.specs.Steps.{raise, clear, plain, policy, expire}
-use Rattle.definition.specs.Reports.{summary}
-use Rattle.definition.specs.Perform.{inRecord, perform}
+use Rattle.definition.specs.Perform.{stepFor, inRecord, inLength, asksRecord, perform}
 use Rattle.definition.specs.Sound.{station}
 use Rattle.definition.specs.Contracts.Does.{Refuses}
 use Rattle.reply.specs.declared.Reply.{Reply}
 use Rattle.reply.specs.Meaning.{Replies}
 use Rattle.reply.specs.ReplyLaws.{replies-at}
+use Rattle.operations.specs.Meaning.{withRoom}
 
--- the call c does the step m where there is room
-abbrev pub Does30 : CallValue → Step Answer → Type 0
-Does30 c m = (n : ℕ) → perform c n ≡ inRecord n m
+-- ---- the test
 
-module _ (c : CallValue) (m : Step Answer) (d : Does30 c m) (n : ℕ) where
-  pub no-room : (b a : Bytes) → n < 1552 → Refuses (perform c n) b b a a 30
+module _ (c : CallValue) (n : ℕ) where
+  pub no-room : (b a : Bytes) → asksRecord (opOf c) ≡ true → n < 1552 → Refuses (perform c n) b b a a 30
+  unfolding perform inRecord
+  no-room b a e h = record { stops = rw (e, lt-ltb n 1552 h); register = refl; answer = refl }
+
+  same : (s : Bool) → (s ≡ true → 1552 ≤ n) → cond s (inRecord n (stepFor c)) (inLength n (stepFor c)) ≡ cond s (stepFor c) (inLength n (stepFor c))
   unfolding inRecord
-  no-room b a h = record { stops = ap (λ (s : Step Answer). s (station b)) (d n) ∙ rw (lt-ltb n 1552 h); register = refl; answer = refl }
+  same true h = rw (le-ltb n 1552 (h refl))
+  same false h = refl
 
-  pub room : (y : Reply) (b b′ a a′ : Bytes) → 1552 ≤ n → Replies y m b b′ a a′ → Replies y (perform c n) b b′ a a′
-  unfolding inRecord
-  room y b b′ a a′ h w = replies-at y m (perform c n) b b′ a a′ (ap (λ (s : Step Answer). s (station b)) (d n) ∙ rw (le-ltb n 1552 h)) w
+  pub has-room : (y : Reply) (b b′ a a′ : Bytes) → (asksRecord (opOf c) ≡ true → 1552 ≤ n) → Replies y (withRoom c n) b b′ a a′ → Replies y (perform c n) b b′ a a′
+  unfolding perform
+  has-room y b b′ a a′ h w = replies-at y (withRoom c n) (perform c n) b b′ a a′ (ap (λ (m : Step Answer). m (station b)) (same (asksRecord (opOf c)) h)) w
 
-pub raises : (c : RaiseValue) → Does30 (CallValue.raise c) (raise c)
-unfolding perform
-raises c n = refl
+-- ---- the arms
 
-pub clears : (c : ClearValue) → Does30 (CallValue.clear c) (clear c)
-unfolding perform
-clears c n = refl
+-- operations 3 to 6 ask for a record, whichever the action is
+pub plain-asks : (x : Action) (p : PlainValue) → asksRecord (opOf (CallValue.plain x p)) ≡ true
+plain-asks acknowledging p = refl
+plain-asks suppressing p = refl
 
-pub plains : (x : Action) (p : PlainValue) → Does30 (CallValue.plain x p) (plain x p)
-unfolding perform
-plains acknowledging p n = refl
-plains suppressing p n = refl
+pub policy-asks : (x : Action) (p : PolicyValue) → asksRecord (opOf (CallValue.policy x p)) ≡ true
+policy-asks acknowledging p = refl
+policy-asks suppressing p = refl
 
-pub policies : (x : Action) (p : PolicyValue) → Does30 (CallValue.policy x p) (policy x p)
-unfolding perform
-policies acknowledging p n = refl
-policies suppressing p n = refl
+-- a step that asks for a record
+pub steps : (c : CallValue) (n : ℕ) (y : Reply) (b b′ a a′ : Bytes) → asksRecord (opOf c) ≡ true → Replies y (stepFor c) b b′ a a′ → Replies y (withRoom c n) b b′ a a′
+steps c n y b b′ a a′ e w = rw e w
 
-pub expires : (t : ℕ) → Does30 (CallValue.expire t) (expire t)
-unfolding perform
-expires t n = refl
-
-pub sums : Does30 CallValue.summary summary
-unfolding perform
-sums n = refl
+-- what the parser refused stays refused
+pub stays-refused : (k n : ℕ) (b a : Bytes) → Refuses (withRoom (CallValue.refused k) n) b b a a k
+unfolding inLength _>>=_
+stays-refused k n b a = record { stops = refl; register = refl; answer = refl }

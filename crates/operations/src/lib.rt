@@ -1,162 +1,175 @@
-// Operations 1 to 7 and 11 on a sound register: 30 where the answer slice has no room for a record, and else the step.
-ghost use lib.Dec.{T};
+// A call that was read, on a sound register: room for its answer, and then its operation.
+//
+// `perform` is the definition's `perform` (crates/definition/specs/Perform.antt). The answer's room is one test before the dispatch: operations 1 to 7 and 11 ask
+// for a head and a record, whatever they will answer (30); the others know their answer's size when they have made it, and test it themselves. The
+// dispatch has one line for each operation. A raise and a clear are searched for here, along the active chain, and their steps are given
+// what was found (`raising::raise_at`, `state::clear_at`). A new operation is a line of the dispatch, one of `asks_record`, and a crate.
+// Next: specs/RoomLaws.antt, and the crate of the operation that you look for.
+ghost use mathlib.Core.Path.{_≡_};
+ghost use mathlib.Core.Bool.{_&&_, true};
+ghost use Prim.Native.Nat.{_≤_};
+ghost use lib.Dec.{ltb};
 ghost use lib.ListN.{length};
-ghost use Rattle.definition.specs.Limits.{shortLimit};
-ghost use Rattle.definition.specs.Value.{CallValue};
-ghost use Rattle.definition.specs.Contracts.LegalFields.{LegalRaise};
-ghost use Rattle.definition.specs.Perform.{perform};
-ghost use Rattle.definition.specs.Sound.{sound};
-ghost use Rattle.model.specs.Meaning.{within, actionOf};
-ghost use Rattle.raise_fields.specs.Meaning.{raiseValue, clearValue, RaiseWithin, ClearWithin};
-ghost use Rattle.action_fields.specs.Meaning.{policyValue};
-ghost use Rattle.admin.specs.Meaning.{Sent};
-ghost use Rattle.call.specs.Meaning.{plainValue};
+ghost use Rattle.octets.specs.Bytes.{Bytes};
+ghost use Rattle.definition.specs.Value.{opOf};
+ghost use Rattle.definition.specs.Contracts.LegalFields.{LegalRaise, LegalCall};
+ghost use Rattle.definition.specs.Contracts.Does.{Answers};
+ghost use Rattle.definition.specs.Steps as S;
+ghost use Rattle.definition.specs.Perform.{asksRecord, perform as performed};
+ghost use Rattle.raise_fields.specs.Meaning.{raiseValue, clearValue};
+ghost use Rattle.call.specs.Meaning.{meaning, parsedWithin};
+ghost use Rattle.history.specs.Meaning.{Standing};
+ghost use Rattle.raising.specs.Meaning.{Ready};
+ghost use Rattle.state.specs.Meaning.{Clearing};
 ghost use Rattle.reply.specs.Meaning.{Replies};
-ghost use Rattle.operations.specs.Meaning.{Standing};
-use action_fields::Policy;
-use call::Plain;
-use model::Action;
+ghost use Rattle.operations.specs.Meaning.{withRoom};
+use call::Parsed;
 use model::Record;
 use raise_fields::Clear;
 use raise_fields::Raise;
-use register_check::Lasts;
+use register::Ends;
 use reply::Reply;
 
 // A head and a record.
 const ROOM: usize = 16 + Record::WIDTH;
 
-pub fn on_raise(register: &mut [u8], l: Lasts, call: &[u8], r: Raise, answer: &mut [u8]) -> Reply
-    requires { ⌜ Standing (now register) l × RaiseWithin (now call) r × LegalRaise (raiseValue (now call) r) ⌝ }
+// ---- 1 and 2: a step, given what the search for the key found
+
+fn raise(register: &mut [u8], ends: Ends, call: &[u8], r: Raise, answer: &mut [u8]) -> Reply
+    requires { ⌜ Ready (now register) ends (now call) r (now answer) ⌝ }
     ensures { λ y.
         ⌜ Replies
         y
-        (perform (CallValue.raise (raiseValue (now (call .entry)) r)) (length (now (answer .entry))))
+        (S.raise (raiseValue (now (call .entry)) r))
         (now (register .entry))
         (now (register .exit))
         (now (answer .entry))
         (now (answer .exit)) ⌝ }
 {
-    if answer.len() < ROOM {
-        return Reply::Refused(30);
-    }
-    raising::raise(register, l.active, l.history, call, r, answer)
+    let about = r.key;
+    let key = key::key_of(call, r.head.alarm_type, about);
+    let found = register::find_key(register, &key);
+    raising::raise_at(register, ends, call, r, &key, found, answer)
 }
 
-pub fn on_clear(register: &mut [u8], l: Lasts, call: &[u8], c: Clear, answer: &mut [u8]) -> Reply
-    requires { ⌜ Standing (now register) l × ClearWithin (now call) c ⌝ }
-    ensures { λ y.
-        ⌜ Replies
-        y
-        (perform (CallValue.clear (clearValue (now (call .entry)) c)) (length (now (answer .entry))))
+fn clear(register: &mut [u8], ends: Ends, call: &[u8], c: Clear, answer: &mut [u8]) -> usize
+    requires { ⌜ Clearing (now register) ends (now call) c (now answer) ⌝ }
+    ensures { λ n.
+        ⌜ Answers
+        (S.clear (clearValue (now (call .entry)) c))
         (now (register .entry))
         (now (register .exit))
         (now (answer .entry))
-        (now (answer .exit)) ⌝ }
+        (now (answer .exit))
+        n ⌝ }
 {
-    if answer.len() < ROOM {
-        return Reply::Refused(30);
-    }
-    let kind = c.alarm_type;
     let about = c.key;
-    Reply::Answered(state::clear(register, l.history, call, c.time, kind, about, answer))
+    let key = key::key_of(call, c.alarm_type, about);
+    let found = register::find_key(register, &key);
+    state::clear_at(register, ends, call, c, &key, found, answer)
 }
 
-pub fn on_plain(
+// ---- room for the answer
+
+// Whether a call asks for room for a record before its step: operations 1 to 7 and 11.
+fn asks_record(parsed: Parsed) -> bool
+    ensures { λ r. ⌜ ((call : Bytes) → r ≡ asksRecord (opOf (meaning call parsed))) ⌝ }
+{
+    match parsed {
+        Parsed::Raise(_) => true,
+        Parsed::Clear(_) => true,
+        Parsed::Plain(_, _) => true,
+        Parsed::Policy(_, _) => true,
+        Parsed::Expire(_) => true,
+        Parsed::Active(_) => false,
+        Parsed::History {
+            tenant: _,
+            slice: _,
+        } => false,
+        Parsed::Counts => false,
+        Parsed::Summary => true,
+        Parsed::TakeAudit(_) => false,
+        Parsed::Refused(_) => false,
+    }
+}
+
+// ---- the operations
+
+// The operation of a call, where there is room for a record if it asks for one.
+fn dispatch(
     register: &mut [u8],
-    l: Lasts,
+    ends: Ends,
     call: &[u8],
-    p: Plain,
-    action: Action,
+    parsed: Parsed,
     answer: &mut [u8],
 ) -> Reply
-    requires { ⌜ Standing (now register) l × within (now call) shortLimit (p .id) ⌝ }
+    requires { ⌜ Standing (now register) ends × parsedWithin (now call) parsed × LegalCall (meaning (now call) parsed) ⌝ }
+    requires { ⌜ asksRecord (opOf (meaning (now call) parsed)) ≡ true → 1552 ≤ length (now answer) ⌝ }
     ensures { λ y.
         ⌜ Replies
         y
-        (perform (CallValue.plain (actionOf action) (plainValue (now (call .entry)) p)) (length (now (answer .entry))))
+        (withRoom (meaning (now (call .entry)) parsed) (length (now (answer .entry))))
         (now (register .entry))
         (now (register .exit))
         (now (answer .entry))
         (now (answer .exit)) ⌝ }
 {
-    if answer.len() < ROOM {
-        return Reply::Refused(30);
+    match parsed {
+        Parsed::Raise(r) => raise(register, ends, call, r, answer),
+        Parsed::Clear(c) => Reply::Answered(clear(register, ends, call, c, answer)),
+        Parsed::Plain(action, p) => Reply::Answered(state::plain(
+            register,
+            ends,
+            call,
+            p,
+            action,
+            answer,
+        )),
+        Parsed::Policy(action, p) => Reply::Answered(admin::apply_admin_action(
+            register,
+            ends,
+            call,
+            p,
+            action,
+            answer,
+        )),
+        Parsed::Expire(cutoff) => Reply::Answered(expiry::expire(register, ends, cutoff, answer)),
+        Parsed::Active(severity) => alarm_lists::active_list(register, severity, answer),
+        Parsed::History { tenant, slice } => alarm_lists::history_list(
+            register,
+            call,
+            tenant,
+            slice,
+            answer,
+        ),
+        Parsed::Counts => metrics::counts(register, answer),
+        Parsed::Summary => Reply::Answered(metrics::summary(register, answer)),
+        Parsed::TakeAudit(n) => audit_log::take_audit(register, n, answer),
+        Parsed::Refused(k) => Reply::Refused(k as u32),
     }
-    let id = p.id;
-    Reply::Answered(state::plain(
-        register,
-        l.history,
-        call,
-        id,
-        p.time,
-        p.authorised,
-        action,
-        answer,
-    ))
 }
 
-pub fn on_policy(
+// A call that was read, on a sound register and its chains' ends.
+pub fn perform(
     register: &mut [u8],
-    l: Lasts,
+    ends: Ends,
     call: &[u8],
-    p: Policy,
-    action: Action,
+    parsed: Parsed,
     answer: &mut [u8],
 ) -> Reply
-    requires { ⌜ Standing (now register) l × Sent (now call) p ⌝ }
+    requires { ⌜ Standing (now register) ends × parsedWithin (now call) parsed × LegalCall (meaning (now call) parsed) ⌝ }
     ensures { λ y.
         ⌜ Replies
         y
-        (perform (CallValue.policy (actionOf action) (policyValue (now (call .entry)) p)) (length (now (answer .entry))))
+        (performed (meaning (now (call .entry)) parsed) (length (now (answer .entry))))
         (now (register .entry))
         (now (register .exit))
         (now (answer .entry))
         (now (answer .exit)) ⌝ }
 {
-    if answer.len() < ROOM {
+    let lacks = answer.len() < ROOM;
+    if asks_record(parsed) & lacks {
         return Reply::Refused(30);
     }
-    Reply::Answered(admin::apply_admin_action(
-        register,
-        l.history,
-        l.audit,
-        call,
-        p,
-        action,
-        answer,
-    ))
-}
-
-pub fn on_expire(register: &mut [u8], l: Lasts, cutoff: u64, answer: &mut [u8]) -> Reply
-    requires { ⌜ Standing (now register) l ⌝ }
-    ensures { λ y.
-        ⌜ Replies
-        y
-        (perform (CallValue.expire cutoff) (length (now (answer .entry))))
-        (now (register .entry))
-        (now (register .exit))
-        (now (answer .entry))
-        (now (answer .exit)) ⌝ }
-{
-    if answer.len() < ROOM {
-        return Reply::Refused(30);
-    }
-    Reply::Answered(expiry::expire(register, l.history, cutoff, answer))
-}
-
-pub fn on_summary(register: &[u8], answer: &mut [u8]) -> Reply
-    requires { ⌜ T (sound (now register)) ⌝ }
-    ensures { λ y.
-        ⌜ Replies
-        y
-        (perform CallValue.summary (length (now (answer .entry))))
-        (now (register .entry))
-        (now (register .entry))
-        (now (answer .entry))
-        (now (answer .exit)) ⌝ }
-{
-    if answer.len() < ROOM {
-        return Reply::Refused(30);
-    }
-    Reply::Answered(metrics::summary(register, answer))
+    dispatch(register, ends, call, parsed, answer)
 }

@@ -10,12 +10,13 @@ use Rattle.definition.specs.Answer.{Answer, Updated}
 use Rattle.definition.specs.Steps.{change, updatedBy, raiseAt}
 use Rattle.raise_fields.specs.declared.Raise.{Raise}
 use Rattle.raise_fields.specs.Meaning.{raiseValue, RaiseWithin}
-use Rattle.history.specs.Meaning.{Newest}
+use Rattle.register.specs.declared.Ends.{Ends}
+use Rattle.history.specs.Meaning.{Standing}
 use Rattle.history.specs.Walk.{alarmAt}
 
--- a sound register with history's newest record, a raise that the call holds, and room for an alarm in the answer
-pub record Ready (b : Bytes) (last : ℕ) (call : Bytes) (r : Raise) (a : Bytes) : Type 0 where
-  pub newest : Newest b last
+-- a sound register with its chains' ends, a raise that the call holds, and room for an alarm in the answer
+pub record Ready (b : Bytes) (e : Ends) (call : Bytes) (r : Raise) (a : Bytes) : Type 0 where
+  pub standing : Standing b e
   pub parts : RaiseWithin call r
   pub legal : LegalRaise (raiseValue call r)
   pub room : 1552 ≤ length a

@@ -3,7 +3,7 @@ use Prim.Native.Nat.{ℕ, _≤_, _<_}
 use mathlib.Core.Path.{_≡_, refl, sym, ap, _∙_, subst}
 use mathlib.Core.List.{_++_}
 use mathlib.Core.Bool.{true, false}
-use mathlib.Core.Option.{Option, none}
+use mathlib.Core.Option.{Option, some}
 use borrow.Author.Tests.{le-leb, lt-leb}
 use lib.Dec.{T, leb}
 use lib.ListN.{length}
@@ -11,26 +11,24 @@ use Rattle.octets.specs.Bytes.{Bytes, be32}
 use Rattle.octets.specs.Put.{Put}
 use Rattle.octets.specs.PutLaws.{put-as}
 use Rattle.definition.specs.Value.{RaiseValue}
-use Rattle.definition.specs.Key.{keyOf}
-use Rattle.definition.specs.Chain.{Entry, present, first}
-use Rattle.definition.specs.Alarm.{Alarm, hasKey, hasId}
+use Rattle.definition.specs.Chain.{Entry, entry, present, first}
+use Rattle.definition.specs.Alarm.{Alarm, hasId}
 use Rattle.definition.specs.Contracts.LegalFields.{LegalRaise}
 use Rattle.definition.specs.Laws.Steps.ChangedLegal.{updated-legal, new-legal}
 use Rattle.definition.specs.Record.{lastActive, alarmBytes, readAlarm}
 use Rattle.definition.specs.Book.{recordOf}
 use Rattle.definition.specs.Station.{_>>=_, refuse}
-use Rattle.definition.specs.Steps.{change, updatedBy, newAlarm, store, storeNew, limitExceeded, raiseAt, raise}
+use Rattle.definition.specs.Steps.{change, updatedBy, newAlarm, store, storeNew, limitExceeded, raiseAt}
 use Rattle.definition.specs.Answer.{Raised, Updated, ActiveLimitExceeded, head, headBytes, answerBytes}
 use Rattle.definition.specs.Sound.{station, sound}
 use Rattle.definition.specs.Contracts.Does.{Does, Answers, Refuses}
 use Rattle.history.specs.Meaning.{IsAlarm, OnActive, Changes}
 use Rattle.history.specs.Walk.{alarmAt}
 use Rattle.history.specs.DoesLaws.{does-then, does-look, does-yes, does-no}
-use Rattle.history.specs.FoundLaws.{FoundAt, alarm-payload, payload-as, changed-payload}
+use Rattle.history.specs.FoundLaws.{alarm-payload, payload-as, changed-payload}
 use Rattle.answers.specs.AnswerLaws.{alarm-as, answers-put}
 use Rattle.changes.specs.Meaning.{updatedWith, newsIn, updated-with}
 use Rattle.reply.specs.declared.Reply.{Reply}
-use Rattle.reply.specs.declared.Reply.the-variants.{Answered}
 use Rattle.reply.specs.Meaning.{Replies}
 use Rattle.reply.specs.ReplyLaws.{replies-at}
 use Rattle.raising.specs.Meaning.{updatesAt, raisesNew}
@@ -89,21 +87,8 @@ module _ (c : RaiseValue) (k b : Bytes) (h : T (sound b)) where
   unfolding raiseAt _>>=_
   has-room y b′ a a′ room r = replies-at y (storeNew new) (raisesNew c k) b b′ a a′ (rw (lt-leb (station b .limitA) (length (station b .active)) room)) r
 
--- ---- the key is looked for
+-- ---- given what a search found
 
-module _ (c : RaiseValue) (k : Bytes) (e : k ≡ keyOf (c .head .type) (c .key)) (b b′ a a′ : Bytes) where
-  abbrev theKey : Bytes
-  theKey = keyOf (c .head .type) (c .key)
-
-  pub raise-found : (i p n : ℕ) → FoundAt (hasKey k) b i p → Answers (updatesAt b i c) b b′ a a′ n → Replies (Answered n) (raise c) b b′ a a′
-  unfolding raise raiseAt _>>=_
-  raise-found i p n held w =
-      let f = subst (λ (z : Bytes). FoundAt (hasKey z) b i p) e held in
-      replies-at (Answered n) (updatesAt b i c) (raise c) b b′ a a′ (rw (f .found)) w
-
-  pub raise-none : (y : Reply) → first (hasKey k) (station b .active) ≡ none → Replies y (raisesNew c k) b b′ a a′ → Replies y (raise c) b b′ a a′
-  unfolding raise _>>=_
-  raise-none y f w =
-      let g = subst (λ (z : Bytes). first (hasKey z) (station b .active) ≡ none) e f in
-      let v = subst (λ (z : Bytes). Replies y (raisesNew c z) b b′ a a′) e w in
-      replies-at y (raisesNew c theKey) (raise c) b b′ a a′ (rw g) v
+pub raise-at-found : (c : RaiseValue) (k b b′ a a′ : Bytes) (i n : ℕ) → Answers (updatesAt b i c) b b′ a a′ n → Answers (raiseAt c k (some (entry i (alarmAt b i)))) b b′ a a′ n
+unfolding raiseAt
+raise-at-found c k b b′ a a′ i n w = w

@@ -1,8 +1,13 @@
-// Raise: the active alarm with the key is updated, or a new one is stored.
+// Operation 1, a raise, given what a search for its key found.
+//
+// The search is the caller's: along the active chain for a single call (crates/operations), and it may be another where many calls come
+// together. `raise_at` is the definition's `raiseAt`: an alarm that was found is updated in its place; else a new one is stored, unless
+// the active chain is full (code 5) or the id is active (31). It has room for a record in the answer, and the chains' ends, from its
+// caller. The payloads are made by `changes` and `build`, and go to the register by `history`. Next: specs/RaiseLaws.antt has the step as the code's
+// moves make it, one law for each way.
 ghost use mathlib.Core.Path.{_≡_};
 ghost use lib.Dec.{T};
 ghost use lib.ListN.{length};
-ghost use Rattle.definition.specs.Contracts.LegalBook.{lastOf};
 ghost use Rattle.definition.specs.Chain.{present, first};
 ghost use Rattle.definition.specs.Alarm.{hasId};
 ghost use Rattle.definition.specs.Limits.{shortLimit};
@@ -12,6 +17,7 @@ ghost use Rattle.definition.specs.Contracts.Does.{Answers};
 ghost use Rattle.model.specs.Meaning.{part, within};
 ghost use Rattle.raise_fields.specs.Meaning.{raiseValue};
 ghost use Rattle.history.specs.Meaning.{OnActive, ActiveRoom};
+ghost use Rattle.history.specs.Sought.{foundOf, Sits};
 ghost use Rattle.reply.specs.Meaning.{Replies};
 ghost use Rattle.raising.specs.Meaning.{Ready, updatesAt, raisesNew};
 use changes::News;
@@ -19,12 +25,20 @@ use model::Record;
 use model::Span;
 use raise_fields::Raise;
 use register::ACTIVE;
+use register::Ends;
 use register::Found;
 use reply::Reply;
 
 // Active record i has the key.
-fn update(register: &mut [u8], i: u32, last: u32, call: &[u8], r: Raise, answer: &mut [u8]) -> usize
-    requires { ⌜ Ready (now register) last (now call) r (now answer) × OnActive (now register) i ⌝ }
+fn update(
+    register: &mut [u8],
+    i: u32,
+    ends: Ends,
+    call: &[u8],
+    r: Raise,
+    answer: &mut [u8],
+) -> usize
+    requires { ⌜ Ready (now register) ends (now call) r (now answer) × OnActive (now register) i ⌝ }
     ensures { λ n.
         ⌜ Answers
         (updatesAt (now (register .entry)) i (raiseValue (now (call .entry)) r))
@@ -46,7 +60,7 @@ fn update(register: &mut [u8], i: u32, last: u32, call: &[u8], r: Raise, answer:
     let mut p = [0u8; Record::PAYLOAD];
     state::load(&mut p, register, i);
     changes::updated_by(&mut p, call, news);
-    history::change(register, i, last, &p);
+    history::change(register, i, ends, &p);
     answers::put_alarm(answer, 2, &p)
 }
 
@@ -55,25 +69,22 @@ fn is_active(register: &[u8], call: &[u8], id: Span) -> bool
     requires { ⌜ T (sound (now register)) × within (now call) shortLimit id ⌝ }
     ensures { λ y. ⌜ y ≡ present (first (hasId (part (now (call .entry)) id)) (station (now (register .entry)) .active)) ⌝ }
 {
-    let a = id.at;
-    let e = a + id.len;
-    match register::find_id(register, &call[a..e]) {
+    match register::find_id(register, model::part(call, id)) {
         Found::At(_, _) => true,
         Found::Nowhere => false,
     }
 }
 
-// A new alarm, where there is room; the active chain's last record is `end`.
+// A new alarm, where there is room on the active chain.
 fn insert(
     register: &mut [u8],
-    end: u32,
-    last: u32,
+    ends: Ends,
     call: &[u8],
     r: Raise,
     key: &[u8],
     answer: &mut [u8],
 ) -> Reply
-    requires { ⌜ Ready (now register) last (now call) r (now answer) × ActiveRoom (now register) end × (length (now key) ≡ 16) ⌝ }
+    requires { ⌜ Ready (now register) ends (now call) r (now answer) × ActiveRoom (now register) (ends .active) × (length (now key) ≡ 16) ⌝ }
     ensures { λ y.
         ⌜ Replies
         y
@@ -88,21 +99,20 @@ fn insert(
     }
     let mut p = [0u8; Record::PAYLOAD];
     build::alarm_into(&mut p, key, call, r);
-    history::store(register, end, last, &p);
+    history::store(register, ends, &p);
     Reply::Answered(answers::put_alarm(answer, 1, &p))
 }
 
 // No active alarm has the key.
 fn raise_new(
     register: &mut [u8],
-    end: u32,
-    last: u32,
+    ends: Ends,
     call: &[u8],
     r: Raise,
     key: &[u8],
     answer: &mut [u8],
 ) -> Reply
-    requires { ⌜ Ready (now register) last (now call) r (now answer) × (end ≡ lastOf (station (now register) .active)) × (length (now key) ≡ 16) ⌝ }
+    requires { ⌜ Ready (now register) ends (now call) r (now answer) × (length (now key) ≡ 16) ⌝ }
     ensures { λ y.
         ⌜ Replies
         y
@@ -116,32 +126,31 @@ fn raise_new(
     if limit <= history::held(register, ACTIVE) {
         return Reply::Answered(answers::put_limit(answer, key, limit as u64));
     }
-    insert(register, end, last, call, r, key, answer)
+    insert(register, ends, call, r, key, answer)
 }
 
-// The active chain's last record is `end`, history's newest `last`, 0 for none.
-pub fn raise(
+// A raise whose key was looked for.
+pub fn raise_at(
     register: &mut [u8],
-    end: u32,
-    last: u32,
+    ends: Ends,
     call: &[u8],
     r: Raise,
+    key: &[u8],
+    found: Found,
     answer: &mut [u8],
 ) -> Reply
-    requires { ⌜ Ready (now register) last (now call) r (now answer) × (end ≡ lastOf (station (now register) .active)) ⌝ }
+    requires { ⌜ Ready (now register) ends (now call) r (now answer) × (length (now key) ≡ 16) × Sits (now register) found ⌝ }
     ensures { λ y.
         ⌜ Replies
         y
-        (S.raise (raiseValue (now (call .entry)) r))
+        (S.raiseAt (raiseValue (now (call .entry)) r) (now (key .entry)) (foundOf (now (register .entry)) found))
         (now (register .entry))
         (now (register .exit))
         (now (answer .entry))
         (now (answer .exit)) ⌝ }
 {
-    let about = r.key;
-    let key = key::key_of(call, r.head.alarm_type, about);
-    match register::find_key(register, &key) {
-        Found::At(i, _) => Reply::Answered(update(register, i, last, call, r, answer)),
-        Found::Nowhere => raise_new(register, end, last, call, r, &key, answer),
+    match found {
+        Found::At(i, _) => Reply::Answered(update(register, i, ends, call, r, answer)),
+        Found::Nowhere => raise_new(register, ends, call, r, key, answer),
     }
 }

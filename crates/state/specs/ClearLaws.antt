@@ -2,31 +2,31 @@
 use Prim.Native.Nat.{ℕ, _≤_}
 use mathlib.Core.Path.{_≡_, refl, sym, ap, _∙_, subst}
 use mathlib.Core.List.{_++_}
-use mathlib.Core.Option.{none}
+use mathlib.Core.Option.{none, some}
 use lib.Dec.{T}
 use lib.ListN.{length}
 use Rattle.octets.specs.Bytes.{Bytes}
 use Rattle.octets.specs.Put.{Put}
 use Rattle.octets.specs.PutLaws.{put-as}
-use Rattle.definition.specs.Value.{KeyValue}
-use Rattle.definition.specs.Key.{string, keyOf}
-use Rattle.definition.specs.Chain.{entry, first}
-use Rattle.definition.specs.Alarm.{Alarm, hasKey}
+use Rattle.definition.specs.Value.{ClearValue}
+use Rattle.definition.specs.Key.{string}
+use Rattle.definition.specs.Chain.{entry}
+use Rattle.definition.specs.Alarm.{Alarm}
 use Rattle.definition.specs.Record.{lastActive, lastState, alarmBytes, readAlarm}
 use Rattle.definition.specs.Book.{recordOf}
 use Rattle.definition.specs.Limits.{shortLimit}
 use Rattle.definition.specs.Contracts.LegalFields.{Time}
 use Rattle.definition.specs.Laws.Steps.ChangedLegal.{cleared-legal}
-use Rattle.definition.specs.Steps.{clearedBy, clearAt, clear, retire}
+use Rattle.definition.specs.Steps.{clearedBy, clearAt, retire}
 use Rattle.definition.specs.Answer.{Cleared, ClearWithoutActive, head, headBytes, answerBytes}
-use Rattle.definition.specs.Sound.{station, sound}
+use Rattle.definition.specs.Sound.{sound}
 use Rattle.definition.specs.Contracts.Does.{Does, Answers}
 use Rattle.history.specs.Meaning.{IsAlarm, OnActive, Files}
 use Rattle.history.specs.Walk.{alarmAt}
-use Rattle.history.specs.DoesLaws.{does-then, does-give, does-look}
-use Rattle.history.specs.FoundLaws.{FoundAt, payload-legal, on-alarm, changed-payload}
+use Rattle.history.specs.DoesLaws.{does-then, does-give}
+use Rattle.history.specs.FoundLaws.{payload-legal, on-alarm, changed-payload}
 use Rattle.answers.specs.AnswerLaws.{answer-as, answers-put}
-use Rattle.state.specs.Meaning.{clearOf, clearedAt}
+use Rattle.state.specs.Meaning.{clearedAt}
 
 module _ (b q p : Bytes) (i time : ℕ) (h : T (sound b)) (o : OnActive b i) (t : Time time) (l : q ≡ recordOf b i .content) (e : p ≡ alarmBytes (clearedBy time (readAlarm q))) where
   abbrev was : Alarm
@@ -49,23 +49,12 @@ module _ (b q p : Bytes) (i time : ℕ) (h : T (sound b)) (o : OnActive b i) (t 
       (does-then _ (subst (λ (y : Alarm). Does (retire i y) b b′ tt) (cleared-payload .1) (f .does)) (does-give b′ (Cleared (was .id)) (f .does .sound)))
       (put-as (answer-as (Cleared (was .id)) refl (ap string (sym (k ∙ cleared-id)))) w)
 
-module _ (time : ℕ) (type : Bytes) (about : KeyValue) (k : Bytes) (e : k ≡ keyOf type about) (b : Bytes) (h : T (sound b)) (a a′ : Bytes) (n : ℕ) where
-  pub clear-found :
-      (b′ : Bytes) (i p : ℕ) → FoundAt (hasKey k) b i p → Answers (clearedAt time (entry i (alarmAt b i))) b b′ a a′ n → Answers (clear (clearOf time type about)) b b′ a a′ n
-  unfolding clear clearAt
-  clear-found b′ i p held w =
-      let f = subst (λ (z : Bytes). FoundAt (hasKey z) b i p) e held in
-      record {
-        value = w .value;
-        does = does-then (clearAt (clearOf time type about) (keyOf type about)) (does-look b _ h) (rw (f .found) (w .does));
-        size = w .size;
-        bytes = w .bytes;
-      }
+-- ---- given what a search found
 
-  pub clear-none : first (hasKey k) (station b .active) ≡ none → Put a 0 (answerBytes (ClearWithoutActive k (about .cause))) n a′ → Answers (clear (clearOf time type about)) b b a a′ n
-  unfolding clear clearAt
-  clear-none f w =
-      let g = subst (λ (z : Bytes). first (hasKey z) (station b .active) ≡ none) e f in
-      answers-put
-      (does-then (clearAt (clearOf time type about) (keyOf type about)) (does-look b _ h) (rw g (does-give b (ClearWithoutActive (keyOf type about) (about .cause)) h)))
-      (put-as (ap (λ (z : Bytes). answerBytes (ClearWithoutActive z (about .cause))) e) w)
+pub clear-at-found : (c : ClearValue) (k b b′ a a′ : Bytes) (i n : ℕ) → Answers (clearedAt (c .time) (entry i (alarmAt b i))) b b′ a a′ n → Answers (clearAt c k (some (entry i (alarmAt b i)))) b b′ a a′ n
+unfolding clearAt
+clear-at-found c k b b′ a a′ i n w = w
+
+pub clear-at-none : (c : ClearValue) (k b a a′ : Bytes) (n : ℕ) → T (sound b) → Put a 0 (answerBytes (ClearWithoutActive k (c .key .cause))) n a′ → Answers (clearAt c k none) b b a a′ n
+unfolding clearAt
+clear-at-none c k b a a′ n h w = answers-put (does-give b (ClearWithoutActive k (c .key .cause)) h) w

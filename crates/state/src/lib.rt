@@ -1,4 +1,9 @@
-// The manager's steps on one active alarm: acknowledge and suppress without a policy, and clear.
+// Operations 2, 3 and 4: the manager's steps on one active alarm, clear, acknowledge and suppress without a policy.
+//
+// Each takes the alarm's payload out of its record (`load`), changes it there (crates/changes) and puts it back or into history
+// (crates/history), and answers. `act` is the step of an acknowledgement or a suppression on a record that was found; the policy gate
+// (crates/admin) ends in it too. `clear_at` is the definition's `clearAt`: it is given what a search for the key found, and the search is the
+// caller's. Next: specs/ActLaws.antt and specs/ClearLaws.antt, the steps as the code's moves make them.
 ghost use mathlib.Core.Path.{_≡_};
 ghost use Prim.Native.Nat.{_+_, _≤_};
 ghost use lib.Dec.{T};
@@ -13,14 +18,18 @@ ghost use Rattle.definition.specs.Sound.{sound};
 ghost use Rattle.definition.specs.Contracts.Moves.{CanRelease};
 ghost use Rattle.definition.specs.Contracts.Does.{Answers};
 ghost use Rattle.octets.specs.Put.{Put};
-ghost use Rattle.model.specs.Meaning.{part, keyValue, within, KeyWithin, actionOf};
+ghost use Rattle.model.specs.Meaning.{within, actionOf};
+ghost use Rattle.raise_fields.specs.Meaning.{clearValue};
+ghost use Rattle.action_fields.specs.Meaning.{plainValue};
 ghost use Rattle.history.specs.Meaning.{IsAlarm, Newest, OnActive};
+ghost use Rattle.history.specs.Sought.{foundOf, Sits};
 ghost use Rattle.history.specs.Walk.{alarmAt};
-ghost use Rattle.state.specs.Meaning.{plainOf, Authorised, clearOf, actionCode, clearedAt};
+ghost use Rattle.state.specs.Meaning.{Authorised, Clearing, actionCode, clearedAt};
+use action_fields::Plain;
 use model::Action;
-use model::KeyFields;
 use model::Record;
-use model::Span;
+use raise_fields::Clear;
+use register::Ends;
 use register::Found;
 
 // Active record i's payload, copied.
@@ -42,16 +51,16 @@ fn code_of(action: Action) -> u8
     }
 }
 
-// Active record i is acknowledged or suppressed; history's newest record is `last`.
+// Active record i is acknowledged or suppressed.
 pub fn act(
     register: &mut [u8],
     i: u32,
-    last: u32,
+    ends: Ends,
     action: Action,
     time: u64,
     answer: &mut [u8],
 ) -> usize
-    requires { ⌜ Newest (now register) last × OnActive (now register) i × (1552 ≤ length (now answer)) ⌝ }
+    requires { ⌜ Newest (now register) (ends .history) × OnActive (now register) i × (1552 ≤ length (now answer)) ⌝ }
     ensures { λ r.
         ⌜ Answers
         (S.act (actionOf action) time (entry i (alarmAt (now (register .entry)) i)))
@@ -64,7 +73,7 @@ pub fn act(
     let mut p = [0u8; Record::PAYLOAD];
     load(&mut p, register, i);
     changes::acted_on(&mut p, action, time);
-    history::change(register, i, last, &p);
+    history::change(register, i, ends, &p);
     answers::put_alarm(answer, code_of(action), &p)
 }
 
@@ -81,13 +90,13 @@ fn not_authorized(answer: &mut [u8], action: Action) -> usize
 // The alarm with the id, if it is active; the call says that it is authorised.
 fn plain_on(
     register: &mut [u8],
-    last: u32,
+    ends: Ends,
     id: &[u8],
     time: u64,
     action: Action,
     answer: &mut [u8],
 ) -> usize
-    requires { ⌜ Newest (now register) last × (length (now id) ≤ shortLimit) × (1552 ≤ length (now answer)) ⌝ }
+    requires { ⌜ Newest (now register) (ends .history) × (length (now id) ≤ shortLimit) × (1552 ≤ length (now answer)) ⌝ }
     ensures { λ r.
         ⌜ Authorised
         (actionOf action)
@@ -100,51 +109,55 @@ fn plain_on(
         r ⌝ }
 {
     match register::find_id(register, id) {
-        Found::At(i, _) => act(register, i, last, action, time, answer),
+        Found::At(i, _) => act(register, i, ends, action, time, answer),
         Found::Nowhere => answers::put_text(answer, 10, id),
     }
 }
 
 pub fn plain(
     register: &mut [u8],
-    last: u32,
+    ends: Ends,
     call: &[u8],
-    id: Span,
-    time: u64,
-    authorised: u8,
+    p: Plain,
     action: Action,
     answer: &mut [u8],
 ) -> usize
-    requires { ⌜ Newest (now register) last × within (now call) shortLimit id × (1552 ≤ length (now answer)) ⌝ }
+    requires { ⌜ Newest (now register) (ends .history) × within (now call) shortLimit (p .id) × (1552 ≤ length (now answer)) ⌝ }
     ensures { λ r.
         ⌜ Answers
-        (S.plain (actionOf action) (plainOf time (part (now (call .entry)) id) authorised))
+        (S.plain (actionOf action) (plainValue (now (call .entry)) p))
         (now (register .entry))
         (now (register .exit))
         (now (answer .entry))
         (now (answer .exit))
         r ⌝ }
 {
-    if authorised == 0 {
+    if p.authorised == 0 {
         return not_authorized(answer, action);
     }
-    let a = id.at;
-    let e = a + id.len;
-    plain_on(register, last, &call[a..e], time, action, answer)
+    let id = p.id;
+    plain_on(
+        register,
+        ends,
+        model::part(call, id),
+        p.time,
+        action,
+        answer,
+    )
 }
 
 // ---- 2 clear
 
 // Active record i, which follows `previous`, is cleared.
-fn clear_at(
+fn clear_found(
     register: &mut [u8],
     i: u32,
     previous: u32,
-    last: u32,
+    ends: Ends,
     time: u64,
     answer: &mut [u8],
 ) -> usize
-    requires { ⌜ Newest (now register) last × CanRelease (now register) 0 i previous × (1552 ≤ length (now answer)) ⌝ }
+    requires { ⌜ Newest (now register) (ends .history) × CanRelease (now register) 0 i previous × (1552 ≤ length (now answer)) ⌝ }
     ensures { λ r.
         ⌜ Answers
         (clearedAt time (entry i (alarmAt (now (register .entry)) i)))
@@ -157,33 +170,34 @@ fn clear_at(
     let mut p = [0u8; Record::PAYLOAD];
     load(&mut p, register, i);
     changes::cleared_by(&mut p, time);
-    history::retire(register, i, previous, last, &p);
+    history::retire(register, i, previous, ends, &p);
     answers::put_text(answer, 3, record::id(&p))
 }
 
-pub fn clear(
+// A clear whose key was looked for.
+pub fn clear_at(
     register: &mut [u8],
-    last: u32,
+    ends: Ends,
     call: &[u8],
-    time: u64,
-    alarm_type: Span,
-    about: KeyFields,
+    c: Clear,
+    key: &[u8],
+    found: Found,
     answer: &mut [u8],
 ) -> usize
-    requires { ⌜ Newest (now register) last × within (now call) shortLimit «alarm_type» × KeyWithin (now call) about × (1552 ≤ length (now answer)) ⌝ }
+    requires { ⌜ Clearing (now register) ends (now call) c (now answer) × (length (now key) ≡ 16) × Sits (now register) found ⌝ }
     ensures { λ r.
         ⌜ Answers
-        (S.clear (clearOf time (part (now (call .entry)) «alarm_type») (keyValue (now (call .entry)) about)))
+        (S.clearAt (clearValue (now (call .entry)) c) (now (key .entry)) (foundOf (now (register .entry)) found))
         (now (register .entry))
         (now (register .exit))
         (now (answer .entry))
         (now (answer .exit))
         r ⌝ }
 {
-    let key = key::key_of(call, alarm_type, about);
+    let about = c.key;
     let cause = about.cause;
-    match register::find_key(register, &key) {
-        Found::At(i, previous) => clear_at(register, i, previous, last, time, answer),
-        Found::Nowhere => answers::put_without(answer, &key, call, cause),
+    match found {
+        Found::At(i, previous) => clear_found(register, i, previous, ends, c.time, answer),
+        Found::Nowhere => answers::put_without(answer, key, call, cause),
     }
 }

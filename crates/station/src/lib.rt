@@ -1,78 +1,19 @@
-// The two entry points: a register is opened, and stepped by calls.
+// The entry points: what a host calls, exported to C.
+//
+// Each is thin: it checks the register (22 comes first, `onSound` in the definition), hands its bytes to a plain function of another crate and
+// tells the host what came of it (`reply::tell`). No entry point has a `requires`: number, length and every byte of every slice are fixed by equation
+// for every input. What is proved of whole lists of calls stands here too, in specs/Theorem.antt, on what these contracts say. A new entry point is
+// a crate of its own below this one, and a function here. Next: crates/operations, which does the calls.
 ghost use mathlib.Core.Path.{_≡_};
 ghost use lib.ListN.{length as lengthOf};
 ghost use Rattle.octets.specs.Bytes.{splice};
-ghost use Rattle.definition.specs.Contracts.LegalFields.{LegalCall};
-ghost use Rattle.definition.specs.Perform.{perform as performed};
 ghost use Rattle.definition.specs.Opening.{openOf};
 ghost use Rattle.definition.specs.Lists.{stepOf};
 ghost use Rattle.definition.specs.Claim.{Stepped};
-ghost use Rattle.call.specs.Meaning.{meaning, parsedWithin};
-ghost use Rattle.reply.specs.Meaning.{Replies};
-ghost use Rattle.operations.specs.Meaning.{Standing};
-ghost use Rattle.station.specs.Meaning.{numberIn, lengthIn};
-use call::Parsed;
-use model::Action;
+ghost use Rattle.reply.specs.Meaning.{numberIn, lengthIn};
 use model::Record;
-use register_check::Lasts;
 use register_check::Soundness;
 use reply::Reply;
-
-// A call that was read, on a sound register whose chains end with the records l.
-fn perform(register: &mut [u8], l: Lasts, call: &[u8], parsed: Parsed, answer: &mut [u8]) -> Reply
-    requires { ⌜ Standing (now register) l × parsedWithin (now call) parsed × LegalCall (meaning (now call) parsed) ⌝ }
-    ensures { λ y.
-        ⌜ Replies
-        y
-        (performed (meaning (now (call .entry)) parsed) (lengthOf (now (answer .entry))))
-        (now (register .entry))
-        (now (register .exit))
-        (now (answer .entry))
-        (now (answer .exit)) ⌝ }
-{
-    match parsed {
-        Parsed::Raise(r) => operations::on_raise(register, l, call, r, answer),
-        Parsed::Clear(c) => operations::on_clear(register, l, call, c, answer),
-        Parsed::Acknowledge(p) => operations::on_plain(
-            register,
-            l,
-            call,
-            p,
-            Action::Acknowledge,
-            answer,
-        ),
-        Parsed::Suppress(p) => operations::on_plain(register, l, call, p, Action::Suppress, answer),
-        Parsed::AcknowledgePolicy(p) => operations::on_policy(
-            register,
-            l,
-            call,
-            p,
-            Action::Acknowledge,
-            answer,
-        ),
-        Parsed::SuppressPolicy(p) => operations::on_policy(
-            register,
-            l,
-            call,
-            p,
-            Action::Suppress,
-            answer,
-        ),
-        Parsed::Expire(t) => operations::on_expire(register, l, t, answer),
-        Parsed::Active(v) => alarm_lists::active_list(register, v, answer),
-        Parsed::History { tenant, slice } => alarm_lists::history_list(
-            register,
-            call,
-            tenant,
-            slice,
-            answer,
-        ),
-        Parsed::Counts => metrics::counts(register, answer),
-        Parsed::Summary => operations::on_summary(register, answer),
-        Parsed::TakeAudit(n) => audit_log::take_audit(register, n, answer),
-        Parsed::Refused(k) => Reply::Refused(k as u32),
-    }
-}
 
 // 22 comes first, before the call is read.
 fn step(register: &mut [u8], call: &[u8], answer: &mut [u8]) -> Reply
@@ -87,7 +28,13 @@ fn step(register: &mut [u8], call: &[u8], answer: &mut [u8]) -> Reply
         (now (register .exit)) ⌝ }
 {
     match register_check::check(register) {
-        Soundness::Sound(l) => perform(register, l, call, call::parse(call), answer),
+        Soundness::Sound(ends) => operations::perform(
+            register,
+            ends,
+            call,
+            call::parse(call),
+            answer,
+        ),
         Soundness::Unsound => Reply::Refused(22),
     }
 }
@@ -123,14 +70,5 @@ pub extern "C" fn alarm_step(
         ⌜ now (answer .exit) ≡ splice (now (answer .entry)) 0 (stepOf (now (register .entry)) (now (call .entry)) (lengthOf (now (answer .entry))) .answer) ⌝ }
     ensures { λ _. ⌜ now (register .exit) ≡ stepOf (now (register .entry)) (now (call .entry)) (lengthOf (now (answer .entry))) .register ⌝ }
 {
-    match step(register, call, answer) {
-        Reply::Answered(n) => {
-            *length = n as u64;
-            0
-        }
-        Reply::Refused(k) => {
-            *length = 0;
-            k
-        }
-    }
+    reply::tell(step(register, call, answer), length)
 }

@@ -9,7 +9,7 @@ use Rattle.expiry.proofs.pass.Tie as tie
 
 is-due-requires : tie.Need-is-due-requires
 is-due-requires c κs =
-    let s = c .before .before in
+    let s = c .before .before .before in
     on-fits _ (s .pre .0 .whole) 0 _ (omega arith) (s .pre .1 .on)
 
 returns : tie.Need-returns

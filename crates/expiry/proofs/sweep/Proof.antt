@@ -10,10 +10,10 @@ use Rattle.expiry.proofs.sweep.Statement.{statement}
 use Rattle.expiry.proofs.sweep.Tie as tie
 
 abbrev Inv-loop : tie.InvT-loop
-Inv-loop register₀ last cutoff n at₀ s₀ k₀ register at s k = Sweep cutoff register₀ register n at s k × (length register ≡ length register₀)
+Inv-loop register₀ cutoff n at₀ s₀ k₀ register at s k = Sweep cutoff register₀ register n at s k × (length register ≡ length register₀)
 
 abbrev μ-loop : tie.MeasureT-loop
-μ-loop register₀ last cutoff n at₀ s₀ k₀ register at s k = n - k
+μ-loop register₀ cutoff n at₀ s₀ k₀ register at s k = n - k
 
 held-requires : tie.Need-held-requires Inv-loop μ-loop
 held-requires c κs = (c .before .before .pre .whole, omega arith)

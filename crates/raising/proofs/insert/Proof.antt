@@ -1,6 +1,7 @@
 -- `insert`: an id that is active is refused; else the new alarm is stored.
 use mathlib.Core.Path.{refl, sym, _∙_}
 use borrow.Author.Needs.{needs}
+use Rattle.history.specs.StandingLaws.{standing-newest}
 use denote.Ref.{now}
 use Rattle.raise_fields.specs.Meaning.{raiseValue}
 use Rattle.raising.specs.RaiseLaws.{id-taken, new-payload, stores-new}
@@ -11,13 +12,13 @@ returns : tie.Need-returns
 returns c =
     let a = c .before in
     let s = a .before .before .before .before .before .before in
-    id-taken (raiseValue (now (s .args .call)) (s .args .r)) _ _ (s .pre .0 .newest .whole) _ _ _ (sym (a .is-active .ensures) ∙ c .if1 .taken) refl refl
+    id-taken (raiseValue (now (s .args .call)) (s .args .r)) _ _ (s .pre .0 .standing .whole) _ _ _ (sym (a .is-active .ensures) ∙ c .if1 .taken) refl refl
 
 store-requires : tie.Need-store-requires
 store-requires c κs =
     let m = c .before .before .before in
     let s = m .before .before .before .before .before .before .before .before .before in
-    (s .pre .0 .newest, s .pre .1, new-payload (raiseValue (now (s .args .call)) (s .args .r)) _ _ (s .pre .0 .newest .whole) _ (s .pre .0 .legal) (s .pre .2) (m .alarm-into .ensures) .0)
+    (standing-newest (s .pre .0 .standing), s .pre .1, new-payload (raiseValue (now (s .args .call)) (s .args .r)) _ _ (s .pre .0 .standing .whole) _ (s .pre .0 .legal) (s .pre .2) (m .alarm-into .ensures) .0)
 
 returns-2 : tie.Need-returns-2
 returns-2 c =
@@ -26,7 +27,7 @@ returns-2 c =
     let m = d .before .before .before .before in
     let i = m .before .before in
     let s = i .before .before .before .before .before .before .before in
-    stores-new (raiseValue (now (s .args .call)) (s .args .r)) _ _ (s .pre .0 .newest .whole) _ (s .pre .0 .legal) (s .pre .2) (m .alarm-into .ensures) _ _ _ _ (sym (i .before .is-active .ensures) ∙ i .if1 .left) (d .store .ensures) (w .put-alarm .ensures)
+    stores-new (raiseValue (now (s .args .call)) (s .args .r)) _ _ (s .pre .0 .standing .whole) _ (s .pre .0 .legal) (s .pre .2) (m .alarm-into .ensures) _ _ _ _ (sym (i .before .is-active .ensures) ∙ i .if1 .left) (d .store .ensures) (w .put-alarm .ensures)
 
 pub insert-spec : {M : Type 1} → statement M
 insert-spec =

@@ -2,6 +2,7 @@
 use mathlib.Core.Path.{_∙_}
 use native.Mathlib.Omega.{arith}
 use borrow.Author.Needs.{needs}
+use Rattle.history.specs.StandingLaws.{standing-room}
 use denote.Ref.{now}
 use Rattle.definition.specs.Laws.Steps.SoundChains.{active-limit, active-length}
 use Rattle.history.specs.FoundLaws.{header-room}
@@ -11,10 +12,10 @@ use Rattle.raising.proofs.raise_new.Statement.{statement}
 use Rattle.raising.proofs.raise_new.Tie as tie
 
 get32-requires : tie.Need-get32-requires
-get32-requires c κs = omega (arith, header-room _ (c .before .before .before .before .before .pre .0 .newest .whole))
+get32-requires c κs = omega (arith, header-room _ (c .before .before .before .before .before .pre .0 .standing .whole))
 
 held-requires : tie.Need-held-requires
-held-requires c κs = (c .before .before .before .before .before .before .before .pre .0 .newest .whole, omega arith)
+held-requires c κs = (c .before .before .before .before .before .before .before .pre .0 .standing .whole, omega arith)
 
 returns : tie.Need-returns
 returns c =
@@ -24,7 +25,7 @@ returns c =
     let g = h .before .before in
     let s = g .before .before .before .before .before .before in
     let b = now (s .args .register) in
-    let x = s .pre .0 .newest .whole in
+    let x = s .pre .0 .standing .whole in
     limit-met (raiseValue (now (s .args .call)) (s .args .r)) _ b x _ _ _ _ (g .get32 .ensures ∙ active-limit b x)
     (omega (arith, i .if1 .taken, g .get32 .ensures, h .held .ensures, active-limit b x, active-length b x)) (w .put-limit .ensures)
 
@@ -35,8 +36,8 @@ insert-requires c κs =
     let g = h .before .before in
     let s = g .before .before .before .before .before .before in
     let b = now (s .args .register) in
-    let x = s .pre .0 .newest .whole in
-    (s .pre .0, record { is = s .pre .1; room = omega (arith, i .if1 .left, g .get32 .ensures, h .held .ensures, active-limit b x, active-length b x) }, s .pre .2)
+    let x = s .pre .0 .standing .whole in
+    (s .pre .0, standing-room (s .pre .0 .standing) (omega (arith, i .if1 .left, g .get32 .ensures, h .held .ensures, active-limit b x, active-length b x)), s .pre .1)
 
 returns-2 : tie.Need-returns-2
 returns-2 c =
@@ -46,8 +47,8 @@ returns-2 c =
     let g = h .before .before in
     let s = g .before .before .before .before .before .before in
     let b = now (s .args .register) in
-    let x = s .pre .0 .newest .whole in
-    has-room (raiseValue (now (s .args .call)) (s .args .r)) (now (s .args .key)) b x (n .insert .result) (n .insert .last .0) (now (s .args .answer)) (n .insert .last .1 .1 .1 .1 .1 .1 .0)
+    let x = s .pre .0 .standing .whole in
+    has-room (raiseValue (now (s .args .call)) (s .args .r)) (now (s .args .key)) b x (n .insert .result) (n .insert .last .0) (now (s .args .answer)) (n .insert .last .1 .1 .1 .1 .1 .0)
     (omega (arith, i .if1 .left, g .get32 .ensures, h .held .ensures, active-limit b x, active-length b x)) (n .insert .ensures)
 
 pub raise-new-spec : {M : Type 1} → statement M

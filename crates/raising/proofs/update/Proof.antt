@@ -1,5 +1,6 @@
 -- `update`: the payload is taken out, changed by the raise and put back.
 use borrow.Author.Needs.{needs}
+use Rattle.history.specs.StandingLaws.{standing-newest}
 use denote.Ref.{now}
 use Rattle.raise_fields.specs.Meaning.{raiseValue}
 use Rattle.raising.specs.RaiseLaws.{updated-payload, updates}
@@ -8,7 +9,7 @@ use Rattle.raising.proofs.update.Tie as tie
 
 load-requires : tie.Need-load-requires
 load-requires c κs =
-    let s = c .before .before .before .before .before .before .before in (search needs, s .pre .0 .newest .whole, s .pre .1)
+    let s = c .before .before .before .before .before .before .before in (search needs, s .pre .0 .standing .whole, s .pre .1)
 
 updated-by-requires : tie.Need-updated-by-requires
 updated-by-requires c κs =
@@ -23,9 +24,9 @@ change-requires c κs =
     let x = c .before .before .before in
     let l = x .before .before .before in
     let s = l .before .before .before .before .before .before .before .before in (
-      s .pre .0 .newest,
+      standing-newest (s .pre .0 .standing),
       s .pre .1,
-      updated-payload (raiseValue (now (s .args .call)) (s .args .r)) _ _ _ _ (s .pre .0 .newest .whole) (s .pre .1) (s .pre .0 .legal) (l .load .ensures .0) (x .updated-by .ensures) .0,
+      updated-payload (raiseValue (now (s .args .call)) (s .args .r)) _ _ _ _ (s .pre .0 .standing .whole) (s .pre .1) (s .pre .0 .legal) (l .load .ensures .0) (x .updated-by .ensures) .0,
     )
 
 returns : tie.Need-returns
@@ -35,7 +36,7 @@ returns c =
     let x = h .before .before .before .before in
     let l = x .before .before .before in
     let s = l .before .before .before .before .before .before .before .before in
-    updates (raiseValue (now (s .args .call)) (s .args .r)) _ _ _ _ (s .pre .0 .newest .whole) (s .pre .1) (s .pre .0 .legal) (l .load .ensures .0) (x .updated-by .ensures)
+    updates (raiseValue (now (s .args .call)) (s .args .r)) _ _ _ _ (s .pre .0 .standing .whole) (s .pre .1) (s .pre .0 .legal) (l .load .ensures .0) (x .updated-by .ensures)
     _ _ _ _ (h .change .ensures) (a .put-alarm .ensures)
 
 pub update-spec : {M : Type 1} → statement M

@@ -1,58 +1,50 @@
--- `clear_at`: the payload is taken out, changed and goes into history; the answer is the id.
-use Prim.Native.Nat.{_≤_}
-use native.Mathlib.Omega.{arith}
+-- `clear_at`: an alarm that was found is cleared; else there is none to clear.
+use mathlib.Core.Path.{_≡_, sym, subst}
 use borrow.Author.Needs.{needs}
-use lib.ListN.{length}
 use denote.Ref.{now}
-use Rattle.state.specs.ClearLaws.{cleared-payload, cleared-short, clears}
+use Rattle.raise_fields.specs.Meaning.{clearValue}
+use Rattle.definition.specs.Steps.{clearAt}
+use Rattle.register.specs.declared.Found.{Found}
+use Rattle.history.specs.Sought.{foundOf, Sits}
+use Rattle.state.specs.ActLaws.{answers-as}
+use Rattle.state.specs.ClearLaws.{clear-at-found, clear-at-none}
 use Rattle.state.proofs.clear_at.Statement.{statement}
 use Rattle.state.proofs.clear_at.Tie as tie
 
-load-requires : tie.Need-load-requires
-load-requires c κs =
-    let s = c .before .before .before .before in (search needs, s .pre .0 .whole, s .pre .1 .on)
+clear-found-requires : tie.Need-clear-found-requires
+clear-found-requires c κs =
+    let f = c .before .before .before in
+    let s = f .before .before .before .before .before .before .before in
+    (s .pre .0 .newest, subst (λ (x : Found). Sits (now (s .args .register)) x) (f .found .given .1) (s .pre .2), s .pre .0 .room)
 
-cleared-by-requires : tie.Need-cleared-by-requires
-cleared-by-requires c κs = c .before .before .load .ensures .1
-
-retire-requires : tie.Need-retire-requires
-retire-requires c κs =
-    let x = c .before .before .before in
-    let l = x .before .before .before in
-    let s = l .before .before .before .before .before in
-    (s .pre .0, s .pre .1, cleared-payload _ _ _ _ _ (s .pre .0 .whole) (s .pre .1 .on) (search needs) (l .load .ensures .0) (x .cleared-by .ensures) .0)
-
-put-text-requires : tie.Need-put-text-requires
-put-text-requires c κs =
-    let x = c .before .before .before .before .before .before .before .before .before in
-    let l = x .before .before .before in
-    let s = l .before .before .before .before .before in
-    let k : length (now (c .id .result)) ≤ 64 =
-    rw (c .id .ensures) (cleared-short _ _ _ _ _ (s .pre .0 .whole) (s .pre .1 .on) (search needs) (l .load .ensures .0) (x .cleared-by .ensures)) in (omega (arith, k, s .pre .2), omega (arith, k))
+-- the step as the arm has it
+as-found : (s : tie.Start) {f : Found} → s .args .found ≡ f → clearAt (clearValue (now (s .args .call)) (s .args .c)) (now (s .args .key)) (foundOf (now (s .args .register)) f) ≡ clearAt (clearValue (now (s .args .call)) (s .args .c)) (now (s .args .key)) (foundOf (now (s .args .register)) (s .args .found))
+as-found s e = rw e
 
 returns : tie.Need-returns
 returns c =
-    let a = c .before .before in
-    let k = a .before in
-    let r = k .before .before .before .before .before in
-    let x = r .before .before .before .before in
-    let l = x .before .before .before in
-    let s = l .before .before .before .before .before in
-    clears _ _ _ _ _ (s .pre .0 .whole) (s .pre .1 .on) (search needs) (l .load .ensures .0) (x .cleared-by .ensures) _ _ _ _ _ _ (r .retire .ensures) (k .id .ensures) (a .put-text .ensures)
+    let k = c .before .before .before .before in
+    let f = k .before .before .before .before in
+    let s = f .before .before .before .before .before .before .before in
+    answers-as (as-found s (f .found .given .1)) (clear-at-found _ _ _ _ _ _ _ _ (k .clear-found .ensures))
+
+returns-2 : tie.Need-returns-2
+returns-2 c =
+    let w = c .before .before in
+    let e = w .before .before in
+    let s = e .before .before .before .before .before .before .before in
+    answers-as (as-found s (e .enum-told .given .1)) (clear-at-none _ _ _ _ _ _ (s .pre .0 .newest .whole) (w .put-without .ensures))
 
 pub clear-at-spec : {M : Type 1} → statement M
 clear-at-spec =
     tie.close
     (tie.spec
     (λ c. search needs)
-    load-requires
-    (λ c. search needs)
-    cleared-by-requires
-    (λ c. search needs)
-    retire-requires
+    clear-found-requires
     (λ c. search needs)
     (λ c κs. search needs)
-    put-text-requires
     (λ c. search needs)
     (λ c. search needs)
-    returns)
+    returns
+    (λ c. search needs)
+    returns-2)
