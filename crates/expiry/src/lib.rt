@@ -23,7 +23,7 @@ fn is_due(register: &[u8], i: u32, cutoff: u64) -> bool
     requires { ⌜ 1536 * i + 1536 ≤ length (now register) ⌝ }
     ensures { λ r. ⌜ r ≡ isDue cutoff (alarmAt (now (register .entry)) i) ⌝ }
 {
-    time::is_before(record::updated_at(history::payload(register, i)), cutoff)
+    time::is_before(record::updated_at(register::payload(register, i)), cutoff)
 }
 
 // Active record i, which follows `previous`, expires. Gives history's newest record.
@@ -75,8 +75,8 @@ fn sweep(register: &mut [u8], ends: Ends, cutoff: u64) -> u32
     requires { ⌜ Newest (now register) (ends .history) ⌝ }
     ensures { λ r. ⌜ Swept cutoff (now (register .entry)) (now (register .exit)) r ⌝ }
 {
-    let n = history::held(register, ACTIVE);
-    let mut at = history::first(register, ACTIVE);
+    let n = register::held(register, ACTIVE);
+    let mut at = register::first(register, ACTIVE);
     let mut s = Stand {
         ends: ends,
         kept: 0,
@@ -84,7 +84,7 @@ fn sweep(register: &mut [u8], ends: Ends, cutoff: u64) -> u32
     };
     let mut k = 0;
     while k < n {
-        let next = history::next(register, at);
+        let next = register::next(register, at);
         s = pass(register, at, s, cutoff);
         at = next;
         k += 1;

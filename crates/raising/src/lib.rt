@@ -122,8 +122,8 @@ fn raise_new(
         (now (answer .entry))
         (now (answer .exit)) ⌝ }
 {
-    let limit = octets::get32(register, 0);
-    if limit <= history::held(register, ACTIVE) {
+    let limit = register::limit(register, ACTIVE);
+    if limit <= register::held(register, ACTIVE) {
         return Reply::Answered(answers::put_limit(answer, key, limit as u64));
     }
     insert(register, ends, call, r, key, answer)

@@ -37,7 +37,7 @@ pub fn load(p: &mut [u8], register: &[u8], i: u32)
     requires { ⌜ (length (now p) ≡ payloadWidth) × T (sound (now register)) × OnActive (now register) i ⌝ }
     ensures { λ _. ⌜ (now (p .exit) ≡ recordOf (now (register .entry)) i .content) × IsAlarm lastActive (now (p .exit)) ⌝ }
 {
-    octets::put_bytes(p, 0, history::payload(register, i));
+    octets::put_bytes(p, 0, register::payload(register, i));
 }
 
 // ---- 3 acknowledge, 4 suppress

@@ -6,7 +6,6 @@ use Rattle.octets.specs.Bytes.{Bytes}
 use Rattle.definition.specs.Chain.{present, first}
 use Rattle.definition.specs.Alarm.{hasId}
 use Rattle.definition.specs.Sound.{station}
-use Rattle.definition.specs.Laws.Steps.SoundStation.{sound-holds}
 use Rattle.model.specs.Meaning.{part}
 use Rattle.register.specs.declared.Found.{Found}
 use Rattle.history.specs.Sought.{foundOf}
@@ -15,7 +14,7 @@ use Rattle.raising.proofs.is_active.Statement.{statement}
 use Rattle.raising.proofs.is_active.Tie as tie
 
 find-id-requires : tie.Need-find-id-requires
-find-id-requires c κs = sound-holds _ (c .before .before .before .pre .0) .book
+find-id-requires c κs = c .before .before .before .pre .0
 
 -- what the search found, in the definition's words
 found :

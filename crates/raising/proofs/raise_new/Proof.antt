@@ -5,14 +5,13 @@ use borrow.Author.Needs.{needs}
 use Rattle.history.specs.StandingLaws.{standing-room}
 use denote.Ref.{now}
 use Rattle.definition.specs.Laws.Steps.SoundChains.{active-limit, active-length}
-use Rattle.history.specs.FoundLaws.{header-room}
 use Rattle.raise_fields.specs.Meaning.{raiseValue}
 use Rattle.raising.specs.RaiseLaws.{limit-met, has-room}
 use Rattle.raising.proofs.raise_new.Statement.{statement}
 use Rattle.raising.proofs.raise_new.Tie as tie
 
-get32-requires : tie.Need-get32-requires
-get32-requires c κs = omega (arith, header-room _ (c .before .before .before .before .before .pre .0 .standing .whole))
+limit-requires : tie.Need-limit-requires
+limit-requires c κs = (c .before .before .before .before .before .pre .0 .standing .whole, omega arith)
 
 held-requires : tie.Need-held-requires
 held-requires c κs = (c .before .before .before .before .before .before .before .pre .0 .standing .whole, omega arith)
@@ -26,8 +25,8 @@ returns c =
     let s = g .before .before .before .before .before .before in
     let b = now (s .args .register) in
     let x = s .pre .0 .standing .whole in
-    limit-met (raiseValue (now (s .args .call)) (s .args .r)) _ b x _ _ _ _ (g .get32 .ensures ∙ active-limit b x)
-    (omega (arith, i .if1 .taken, g .get32 .ensures, h .held .ensures, active-limit b x, active-length b x)) (w .put-limit .ensures)
+    limit-met (raiseValue (now (s .args .call)) (s .args .r)) _ b x _ _ _ _ (g .limit .ensures ∙ active-limit b x)
+    (omega (arith, i .if1 .taken, g .limit .ensures, h .held .ensures, active-limit b x, active-length b x)) (w .put-limit .ensures)
 
 insert-requires : tie.Need-insert-requires
 insert-requires c κs =
@@ -37,7 +36,7 @@ insert-requires c κs =
     let s = g .before .before .before .before .before .before in
     let b = now (s .args .register) in
     let x = s .pre .0 .standing .whole in
-    (s .pre .0, standing-room (s .pre .0 .standing) (omega (arith, i .if1 .left, g .get32 .ensures, h .held .ensures, active-limit b x, active-length b x)), s .pre .1)
+    (s .pre .0, standing-room (s .pre .0 .standing) (omega (arith, i .if1 .left, g .limit .ensures, h .held .ensures, active-limit b x, active-length b x)), s .pre .1)
 
 returns-2 : tie.Need-returns-2
 returns-2 c =
@@ -49,13 +48,13 @@ returns-2 c =
     let b = now (s .args .register) in
     let x = s .pre .0 .standing .whole in
     has-room (raiseValue (now (s .args .call)) (s .args .r)) (now (s .args .key)) b x (n .insert .result) (n .insert .last .0) (now (s .args .answer)) (n .insert .last .1 .1 .1 .1 .1 .0)
-    (omega (arith, i .if1 .left, g .get32 .ensures, h .held .ensures, active-limit b x, active-length b x)) (n .insert .ensures)
+    (omega (arith, i .if1 .left, g .limit .ensures, h .held .ensures, active-limit b x, active-length b x)) (n .insert .ensures)
 
 pub raise-new-spec : {M : Type 1} → statement M
 raise-new-spec =
     tie.close
     (tie.spec
-    get32-requires
+    limit-requires
     held-requires
     (λ c. search needs)
     (λ c κs. search needs)

@@ -3,7 +3,6 @@ use mathlib.Core.Path.{refl, sym, _∙_}
 use borrow.Author.Needs.{needs}
 use denote.Ref.{now}
 use Rattle.definition.specs.Alarm.{hasId}
-use Rattle.definition.specs.Laws.Steps.SoundStation.{sound-holds}
 use Rattle.history.specs.FoundLaws.{FoundAt, found-held, not-found}
 use Rattle.model.specs.Meaning.{actionOf}
 use Rattle.state.specs.ActLaws.{on-found, on-none}
@@ -11,7 +10,7 @@ use Rattle.state.proofs.plain_on.Statement.{statement}
 use Rattle.state.proofs.plain_on.Tie as tie
 
 find-id-requires : tie.Need-find-id-requires
-find-id-requires c κs = sound-holds _ (c .before .before .before .before .pre .0 .whole) .book
+find-id-requires c κs = c .before .before .before .before .pre .0 .whole
 
 -- the record found
 held : (c : tie.After-i) → let s = c .before .before .before .before .before .before .before in FoundAt (hasId (now (s .args .id))) (now (s .args .register)) (c .i .given .0 .0) (c .i .given .0 .1 .0)
