@@ -1,6 +1,9 @@
 // Opens and steps registers by the lists of its standard input, and writes a line for each order: the number, the answer's length, and
 // the SHA-256 of the answer's bytes. The files `stdin` and `stdout` of this crate are made by `python3 compare/recorded.py write`: the
 // answers are those of the Rust, in document 01's bytes. compare/lists/src/lib.rs says how a list is written.
+//
+// A witness from outside: the prover says that the entry points equal the definition, and these lists that the definition gives what the Rust
+// answered. `rt ci` runs the program and compares what it writes with `stdout`.
 use libc::STDIN_FILENO;
 use libc::STDOUT_FILENO;
 
