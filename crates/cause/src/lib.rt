@@ -84,10 +84,10 @@ fn other(s: &[u8]) -> Cause
 pub fn is_stored(s: &[u8]) -> bool
     ensures { λ r. ⌜ r ≡ stored (now (s .entry)) ⌝ }
 {
-    match names::name(s) {
-        names::Named::At(_) => true,
-        names::Named::Nothing => other_stored(s),
+    if names::is_one(s) {
+        return true;
     }
+    other_stored(s)
 }
 
 // Whether s is such a cause, where it is none of the names.
