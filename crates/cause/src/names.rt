@@ -1,7 +1,7 @@
-// The 21 names of causes. Each stands here once, as a constant; its place is that in the definition's list.
+// The 21 names of causes. The text of each stands once, in a constant; its place is that in the definition's list.
 //
-// A string is sought by its length: names of one length are three at most. Each is a constant of its own, since Rattle copies a constant to
-// the stack where it is used: LLVM makes of a short one a few comparisons with numbers, of a table with all names a copy at each use.
+// A string is compared with the names of its length, three at most. Rattle copies a constant to the stack where it is used. LLVM makes a few
+// comparisons with numbers of a short one, but would copy a table of all names at each use: so each is a constant of its own.
 ghost use mathlib.Core.Path.{_≡_};
 ghost use mathlib.Core.List.{[]};
 ghost use Prim.Native.Nat.{_+_, _≤_, _<_};
@@ -126,8 +126,8 @@ pub(crate) fn name(s: &[u8]) -> Named
     }
 }
 
-// Whether s is one of the names, which is asked of every record at each call. It does not ask for the place: with a bool alone LLVM needs no
-// branch among the names of one length.
+// Whether s is one of the names, which is asked of every record at each call. The place, which `name` gives, would cost a call and branches
+// among the names of one length, some 3 to 10 ns a record.
 pub(crate) fn is_one(s: &[u8]) -> bool
     ensures { λ r. ⌜ r ≡ oneOf names (now (s .entry)) ⌝ }
 {
