@@ -118,9 +118,13 @@ none-sized s n ls h k (t ∷ ts) i =
     rw (ne-eqb n l (λ e. not-among n ls h (rw e (both-left (among l ls) (lengthsIn ls ts) i))))
     (none-sized s n ls h (suc k) ts (both-right (among l ls) (lengthsIn ls ts) i))
 
--- a string whose length is none of ls, where every name has one of them
-pub elsewhere : (s : Bytes) (ls : List ℕ) → T (lengthsIn ls names) → NoneOf (length s) ls → oneOf names s ≡ false
-elsewhere s ls t h = among-all names s refl (sym (none-sized s (length s) ls h 0 names t))
+-- the lengths of names
+abbrev lengths : List ℕ
+lengths = 28 ∷ 26 ∷ 25 ∷ 24 ∷ 22 ∷ 21 ∷ 20 ∷ 19 ∷ 18 ∷ 16 ∷ 15 ∷ 12 ∷ 10 ∷ []
+
+-- a string of another length
+pub elsewhere : (s : Bytes) → NoneOf (length s) lengths → oneOf names s ≡ false
+elsewhere s h = among-all names s refl (sym (none-sized s (length s) lengths h 0 names tt))
 
 -- ---- a string at a place
 
@@ -137,6 +141,40 @@ one-at (n ∷ ns) (suc k) h = rw (one-at ns k (omega arith)) (or-true (same n (g
 -- a string that stands at a place is one of the names
 pub name-one : (s : Bytes) (k : ℕ) → k < 21 → getD names k [] ≡ s → oneOf names s ≡ true
 name-one s k h e = rw (sym e) (one-at names k h)
+
+-- ---- the search with no place told
+
+abbrev isAt : Named → Bool
+isAt (At k) = true
+isAt Nothing = false
+
+-- whether x holds, or s is one of the texts that have the length n
+abbrev hits : ℕ → Bytes → Bool → List Bytes → Bool
+hits n s x [] = x
+hits n s x (t ∷ ts) = hits n s (cond (eqb n (length t)) (x || same t s) x) ts
+
+hit : (b y : Bool) (k : ℕ) (r : Named) → cond b (isAt r || y) (isAt r) ≡ isAt (cond b (orElse r (cond y (At k) Nothing)) r)
+hit false y k r = refl
+hit true y k (At j) = refl
+hit true true k Nothing = refl
+hit true false k Nothing = refl
+
+hits-sized : (n : ℕ) (s : Bytes) (r : Named) (k : ℕ) (ts : List Bytes) → hits n s (isAt r) ts ≡ isAt (sized n s r k ts)
+hits-sized n s r k [] = refl
+hits-sized n s r k (t ∷ ts) =
+    ap (λ (x : Bool). hits n s x ts) (hit (eqb n (length t)) (same t s) k r)
+    ∙ hits-sized n s (cond (eqb n (length t)) (orElse r (placeOf s t k)) r) (suc k) ts
+
+named-one : (s : Bytes) (r : Named) → named names s r → isAt r ≡ oneOf names s
+named-one s (At k) h = sym (name-one s k (h .0) (h .1))
+named-one s Nothing h = sym h
+
+-- what is found among the names of the length of s
+pub one-by-length : (s : Bytes) {n : ℕ} {x : Bool} → length s ≡ n → x ≡ hits n s false names → x ≡ oneOf names s
+one-by-length s {n} h e =
+    e ∙ hits-sized n s Nothing 0 names ∙ named-one s (sized n s Nothing 0 names) (by-length s h refl)
+
+-- ---- a name put
 
 -- the name at n was put, and k is n
 pub at-place : {k n at r : ℕ} {b c : Bytes} → k ≡ n → Put b at (getD names n []) r c

@@ -1,11 +1,11 @@
 // The cause of an alarm: one of 21 names, or `other:` and a dotted name.
 //
-// A string that is sent and one that is stored are asked two things. `cause_of`, of a string in a call: which cause is it? White space around
-// the dotted name is left out of the stored form, so the answer is a name's place, or the part of the string that stays. `is_stored`, of a
-// string in a record: is it a cause already trimmed? It is asked of each record at each call, and has to be quick.
+// Two things are asked. `cause_of`, of a string in a call: which cause is it? White space around a dotted name is not stored, so the answer
+// is a name's place, or the part of the string that stays. `is_stored`, of a string in a record: is it a cause as it is stored? That is
+// asked of each record at each call, and has to be quick.
 //
-// Both answer as the definition does, for every string, UTF-8 or not: `causeOf` and `stored` in crates/definition/specs/Cause.antt are what
-// to read first. `names` has the names, `white` what counts as white space.
+// Both answer as the definition does, for every string, UTF-8 or not: read `causeOf` and `stored` in crates/definition/specs/Cause.antt
+// first. `names` knows the names and writes one by its place; `white` knows white space.
 ghost use mathlib.Core.Path.{_≡_};
 ghost use mathlib.Core.Bool.{false};
 ghost use Rattle.definition.specs.Cause.{names, oneOf, dotted, causeOf, stored};
@@ -84,10 +84,10 @@ fn other(s: &[u8]) -> Cause
 pub fn is_stored(s: &[u8]) -> bool
     ensures { λ r. ⌜ r ≡ stored (now (s .entry)) ⌝ }
 {
-    match names::name(s) {
-        names::Named::At(_) => true,
-        names::Named::Nothing => other_stored(s),
+    if names::is_one(s) {
+        return true;
     }
+    other_stored(s)
 }
 
 // Whether s is such a cause, where it is none of the names.

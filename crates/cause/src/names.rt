@@ -1,14 +1,14 @@
-// The 21 names of causes. Each stands here once, as a constant; its place is that in the definition's list.
+// The 21 names of causes. The text of each stands once, in a constant; its place is that in the definition's list.
 //
-// A string is sought by its length: names of one length are three at most. Each is a constant of its own, since Rattle copies a constant to
-// the stack where it is used: LLVM makes of a short one a few comparisons with numbers, of a table with all names a copy at each use.
+// A string is compared with the names of its length, three at most. Rattle copies a constant to the stack where it is used. LLVM makes a few
+// comparisons with numbers of a short one, but would copy a table of all names at each use: so each is a constant of its own.
 ghost use mathlib.Core.Path.{_≡_};
 ghost use mathlib.Core.List.{[]};
 ghost use Prim.Native.Nat.{_+_, _≤_, _<_};
 ghost use lib.ListN.{getD, length};
 ghost use Rattle.octets.specs.Bytes.{same, splice};
 ghost use Rattle.octets.specs.Put.{Put};
-ghost use Rattle.definition.specs.Cause.{names};
+ghost use Rattle.definition.specs.Cause.{names, oneOf};
 ghost use Rattle.cause.specs.Meaning.{named, placeOf, orElse};
 
 // Which of the names a string is.
@@ -98,7 +98,7 @@ impl Named {
     }
 }
 
-// The place of s among the names. Asked of every record at each call.
+// The place of s among the names.
 pub(crate) fn name(s: &[u8]) -> Named
     ensures { λ r. ⌜ named names (now (s .entry)) r ⌝ }
 {
@@ -123,6 +123,35 @@ pub(crate) fn name(s: &[u8]) -> Named
         26 => place(s, &DATAPLANE_PREFLIGHT_FAILED, 13),
         28 => place(s, &AUTHORIZATION_POLICY_INVALID, 5),
         _ => Named::Nothing,
+    }
+}
+
+// Whether s is one of the names, which is asked of every record at each call. The place, which `name` gives, would cost a call and branches
+// among the names of one length, some 3 to 10 ns a record.
+pub(crate) fn is_one(s: &[u8]) -> bool
+    ensures { λ r. ⌜ r ≡ oneOf names (now (s .entry)) ⌝ }
+{
+    match s.len() {
+        10 => is_text(s, &LEASE_LOST),
+        12 => is_text(s, &SBI_OVERLOAD),
+        15 => is_text(s, &BACKEND_TIMEOUT)
+            | is_text(s, &NRF_UNREACHABLE)
+            | is_text(s, &KEY_UNAVAILABLE),
+        16 => is_text(s, &PEER_UNREACHABLE),
+        18 => is_text(s, &STORAGE_CORRUPTION) | is_text(s, &LI_DELIVERY_FAILED),
+        19 => is_text(s, &CONFIG_APPLY_FAILED)
+            | is_text(s, &CERTIFICATE_EXPIRED)
+            | is_text(s, &AUDIT_CHAIN_INVALID),
+        20 => is_text(s, &CERTIFICATE_EXPIRING)
+            | is_text(s, &IDENTITY_UNAVAILABLE)
+            | is_text(s, &SECURITY_BREAK_GLASS),
+        21 => is_text(s, &CONFIG_DRIFT_DETECTED) | is_text(s, &PACKET_DROP_THRESHOLD),
+        22 => is_text(s, &CHARGING_EXPORT_FAILED),
+        24 => is_text(s, &PRIVACY_POLICY_VIOLATION),
+        25 => is_text(s, &SESSION_STORE_UNAVAILABLE),
+        26 => is_text(s, &DATAPLANE_PREFLIGHT_FAILED),
+        28 => is_text(s, &AUTHORIZATION_POLICY_INVALID),
+        _ => false,
     }
 }
 

@@ -1,5 +1,4 @@
 -- Each arm looks at all names of its length, and no name has another.
-use mathlib.Core.List.{[], _∷_}
 use Rattle.cause.proofs.Places.{by-length, elsewhere}
 use borrow.Author.Needs.{needs}
 use Rattle.cause.proofs.names.name.Statement.{statement}
@@ -58,7 +57,7 @@ returns-13 : tie.Need-returns-13
 returns-13 c = by-length _ (c .before .before .match .keys13) (c .place13 .ensures)
 
 returns-14 : tie.Need-returns-14
-returns-14 c = elsewhere _ (28 ∷ 26 ∷ 25 ∷ 24 ∷ 22 ∷ 21 ∷ 20 ∷ 19 ∷ 18 ∷ 16 ∷ 15 ∷ 12 ∷ 10 ∷ []) tt (c .match .rest)
+returns-14 c = elsewhere _ (c .match .rest)
 
 pub name-spec : {M : Type 1} → statement M
 name-spec =
