@@ -9,10 +9,9 @@ use Rattle.definition.specs.Book.{Record, payloadWidth, capacity, walk, every, 
 use Rattle.definition.specs.Sound.{sound}
 use Rattle.definition.specs.Chain.{lastOf}
 use Rattle.definition.specs.Contracts.Check.{Leads, Numbers}
-use Rattle.definition.specs.Contracts.LegalBook.{chain}
 use Rattle.register_check.specs.declared.Soundness.{Soundness}
 use Rattle.register_check.specs.declared.Soundness.the-variants.{Sound, Unsound}
-use Rattle.register.specs.declared.Ends.{Ends}
+use Rattle.register.specs.Meaning.{Standing}
 use Rattle.register_check.specs.declared.Kind.{Kind}
 use Rattle.register_check.specs.declared.Kind.the-variants.{Active, History, Audit, Free}
 use Rattle.register_check.specs.declared.HeaderVerdict.{HeaderVerdict}
@@ -22,15 +21,9 @@ use Rattle.register_check.specs.declared.Walked.the-variants.{End, Broke
 
 -- ---- the answer
 
--- the chains that a new record can be added to end there
-pub record EndsAt (e : Ends) (b : Bytes) : Type 0 where
-  pub active : e .active ≡ lastOf (chain 0 (readBook b))
-  pub history : e .history ≡ lastOf (chain 1 (readBook b))
-  pub audit : e .audit ≡ lastOf (chain 2 (readBook b))
-
 -- an answer is right: the bytes are sound, and their chains end there; or they are not, "22"
 abbrev pub Gives : Soundness → Bytes → Type 0
-Gives (Sound e) b = (sound b ≡ true) × EndsAt e b
+Gives (Sound e) b = Standing b e
 Gives Unsound b = sound b ≡ false
 
 -- ---- one chain
