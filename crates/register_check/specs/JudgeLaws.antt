@@ -16,8 +16,15 @@ use Rattle.definition.specs.Laws.Book.BookTests.{limits-to, zeroed-to, zeroed-f
 use Rattle.definition.specs.Laws.Book.CheckParts.{chained-decides}
 use Rattle.definition.specs.Sound.{activeSound, historySound, auditSound, soundRecords, sound}
 use Rattle.definition.specs.Contracts.Check.{Leads, Chained, PassesCheck, Decides, Apart}
+<<<<<<< HEAD
 use Rattle.definition.specs.Contracts.LegalBook.{chain, lastOf, Limit, SoundBook}
 use Rattle.register_check.specs.Meaning.{EndsAt, Chain, Headed, Heads, passes, number}
+=======
+use Rattle.definition.specs.Contracts.LegalBook.{chain}
+use Rattle.register_check.specs.Meaning.{Chain, Headed, Heads, passes, number}
+use Rattle.definition.specs.Laws.Steps.SoundChains.{active-last, history-last, audit-last}
+use Rattle.register.specs.Meaning.{Standing}
+>>>>>>> 982d55edbda223b3b239a3fcceeafbf1c0765ea5
 use Rattle.register_check.specs.declared.Kind.{Kind}
 use Rattle.register_check.specs.declared.Kind.the-variants.{Active, History, Audit, Free}
 use Rattle.register_check.specs.declared.HeaderVerdict.{HeaderVerdict}
@@ -111,8 +118,10 @@ module _ (b : Bytes) (m : ℕ) (h : Headed b m) where
   -- ---- four walks that end
 
   module _ (p q r t : ℕ) (wp : Chain (End p) Active b m) (wq : Chain (End q) History b m) (wr : Chain (End r) Audit b m) (wt : Chain (End t) Free b m) where
-    pub lasts : EndsAt (record { active = p; history = q; audit = r }) b
-    lasts = record { active = last Active p wp; history = last History q wq; audit = last Audit r wr }
+    pub stands : sound b ≡ true → Standing b (record { active = p; history = q; audit = r })
+    stands e =
+        let h = true-holds (sound b) e in
+        record { whole = h; active = last Active p wp ∙ active-last b h; history = last History q wq ∙ history-last b h; audit = last Audit r wr ∙ audit-last b h }
 
     chained : (y : Bool) → Decides y (Apart p q r t) → Decides y (Chained b (capacity (readBook b)))
     chained y d =

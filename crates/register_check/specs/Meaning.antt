@@ -8,10 +8,13 @@ use Rattle.definition.specs.Record.{lastActive, lastState, soundAlarm, soundEve
 use Rattle.definition.specs.Book.{Record, payloadWidth, capacity, walk, every, readBook}
 use Rattle.definition.specs.Sound.{sound}
 use Rattle.definition.specs.Contracts.Check.{Leads, Numbers}
+<<<<<<< HEAD
 use Rattle.definition.specs.Contracts.LegalBook.{chain, lastOf}
+=======
+>>>>>>> 982d55edbda223b3b239a3fcceeafbf1c0765ea5
 use Rattle.register_check.specs.declared.Soundness.{Soundness}
 use Rattle.register_check.specs.declared.Soundness.the-variants.{Sound, Unsound}
-use Rattle.register.specs.declared.Ends.{Ends}
+use Rattle.register.specs.Meaning.{Standing}
 use Rattle.register_check.specs.declared.Kind.{Kind}
 use Rattle.register_check.specs.declared.Kind.the-variants.{Active, History, Audit, Free}
 use Rattle.register_check.specs.declared.HeaderVerdict.{HeaderVerdict}
@@ -21,15 +24,9 @@ use Rattle.register_check.specs.declared.Walked.the-variants.{End, Broke
 
 -- ---- the answer
 
--- the chains that a new record can be added to end there
-pub record EndsAt (e : Ends) (b : Bytes) : Type 0 where
-  pub active : e .active ≡ lastOf (chain 0 (readBook b))
-  pub history : e .history ≡ lastOf (chain 1 (readBook b))
-  pub audit : e .audit ≡ lastOf (chain 2 (readBook b))
-
 -- an answer is right: the bytes are sound, and their chains end there; or they are not, "22"
 abbrev pub Gives : Soundness → Bytes → Type 0
-Gives (Sound e) b = (sound b ≡ true) × EndsAt e b
+Gives (Sound e) b = Standing b e
 Gives Unsound b = sound b ≡ false
 
 -- ---- one chain

@@ -4,7 +4,7 @@ use borrow.Author.Needs.{needs}
 use borrow.Author.Tests.{not-true, not-false}
 use Rattle.definition.specs.Sound.{sound}
 use Rattle.register_check.specs.Meaning.{Chain}
-use Rattle.register_check.specs.JudgeLaws.{broken, went, judged, lasts}
+use Rattle.register_check.specs.JudgeLaws.{broken, went, judged, stands}
 use Rattle.register_check.specs.declared.Kind.the-variants.{Active, History, Audit, Free}
 use Rattle.register_check.specs.declared.Walked.the-variants.{End}
 use Rattle.register_check.proofs.chains.Statement.{statement}
@@ -70,7 +70,7 @@ returns-6 c =
     let e = fourth f in
     let h = third e in
     let a = second h in
-    (verdict (c .before) ∙ not-false _ (c .if1 .left), lasts _ _ (first a .pre .0) _ _ _ _ (active a) (history h) (audit e) (free f))
+    stands _ _ (first a .pre .0) _ _ _ _ (active a) (history h) (audit e) (free f) (verdict (c .before) ∙ not-false _ (c .if1 .left))
 
 pub chains-spec : {M : Type 1} → statement M
 chains-spec =
