@@ -16,15 +16,10 @@ use Rattle.definition.specs.Laws.Book.BookTests.{limits-to, zeroed-to, zeroed-f
 use Rattle.definition.specs.Laws.Book.CheckParts.{chained-decides}
 use Rattle.definition.specs.Sound.{activeSound, historySound, auditSound, soundRecords, sound}
 use Rattle.definition.specs.Contracts.Check.{Leads, Chained, PassesCheck, Decides, Apart}
-<<<<<<< HEAD
 use Rattle.definition.specs.Contracts.LegalBook.{chain, lastOf, Limit, SoundBook}
-use Rattle.register_check.specs.Meaning.{EndsAt, Chain, Headed, Heads, passes, number}
-=======
-use Rattle.definition.specs.Contracts.LegalBook.{chain}
 use Rattle.register_check.specs.Meaning.{Chain, Headed, Heads, passes, number}
 use Rattle.definition.specs.Laws.Steps.SoundChains.{active-last, history-last, audit-last}
 use Rattle.register.specs.Meaning.{Standing}
->>>>>>> 982d55edbda223b3b239a3fcceeafbf1c0765ea5
 use Rattle.register_check.specs.declared.Kind.{Kind}
 use Rattle.register_check.specs.declared.Kind.the-variants.{Active, History, Audit, Free}
 use Rattle.register_check.specs.declared.HeaderVerdict.{HeaderVerdict}

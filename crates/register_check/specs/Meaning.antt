@@ -7,11 +7,8 @@ use Rattle.octets.specs.Bytes.{Bytes, same, zeros, at32}
 use Rattle.definition.specs.Record.{lastActive, lastState, soundAlarm, soundEvent}
 use Rattle.definition.specs.Book.{Record, payloadWidth, capacity, walk, every, readBook}
 use Rattle.definition.specs.Sound.{sound}
+use Rattle.definition.specs.Contracts.LegalBook.{lastOf}
 use Rattle.definition.specs.Contracts.Check.{Leads, Numbers}
-<<<<<<< HEAD
-use Rattle.definition.specs.Contracts.LegalBook.{chain, lastOf}
-=======
->>>>>>> 982d55edbda223b3b239a3fcceeafbf1c0765ea5
 use Rattle.register_check.specs.declared.Soundness.{Soundness}
 use Rattle.register_check.specs.declared.Soundness.the-variants.{Sound, Unsound}
 use Rattle.register.specs.Meaning.{Standing}
