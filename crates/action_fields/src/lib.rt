@@ -98,13 +98,13 @@ pub fn plain_at(call: &[u8], at: Cursor) -> PlainRead
     let id = fields::text_at(call, at, Record::SHORT);
     let at = id.next;
     let id = id.span;
-    let authorised = fields::choice_at(call, at, 0, 1);
-    let at = authorised.next;
+    let flag = fields::choice_at(call, at, 0, 1);
+    let at = flag.next;
     PlainRead {
         plain: Plain {
             time: time.value,
             id: id,
-            authorised: authorised.value,
+            authorised: flag.value,
         },
         next: at,
     }

@@ -50,6 +50,6 @@ parsedWithin call (P.Refused n) = Unit
 abbrev pub SaysCall : Bytes → Cursor → Reader CallValue → CallRead → Type 0
 SaysCall call at fields answer = Says call at fields meaning parsedWithin (answer .parsed) (answer .next)
 
--- an answer means a call, or a refusal
+-- an answer means a call or a refusal, every part of it within its limit
 abbrev pub Means : Bytes → Parsed → CallValue → Type 0
 Means call answer v = (meaning call answer ≡ v) × parsedWithin call answer

@@ -22,7 +22,6 @@ use raise_fields::Raise;
 use raise_fields::RaiseRead;
 ghost use mathlib.Core.Path.{_≡_};
 ghost use mathlib.Core.Bool.{_||_};
-ghost use Prim.Native.Nat.{_<_};
 ghost use lib.Dec.{leb, eqb};
 ghost use Rattle.definition.specs.Reader.{number, into};
 ghost use Rattle.definition.specs.Value.{CallValue};

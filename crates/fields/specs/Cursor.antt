@@ -2,16 +2,18 @@
 use Prim.Native.Nat.{ℕ}
 use mathlib.Core.Path.{_≡_}
 use mathlib.Core.Bool.{Bool, cond}
+use mathlib.Core.Option.{Option}
 use lib.ListN.{drop}
 use Rattle.octets.specs.Bytes.{Bytes}
 use Rattle.definition.specs.Limits.{causeLimit}
 use Rattle.definition.specs.Cause.{causeOf}
 use Rattle.definition.specs.Reader.{Out, got, bad, Reader, causeIs}
-use Rattle.model.specs.Meaning.{part, causePart, within, causeWithin}
+use Rattle.model.specs.Meaning.{part, optPart, causePart, within, optWithin, causeWithin}
 use Rattle.model.specs.declared.Span.{Span}
 use Rattle.fields.specs.declared.Cursor.{Cursor}
 use Rattle.fields.specs.declared.Cursor.the-variants.{At, Fault}
 use Rattle.fields.specs.declared.SpanRead.{SpanRead}
+use Rattle.fields.specs.declared.OptSpanRead.{OptSpanRead}
 use Rattle.fields.specs.declared.CauseRead.{CauseRead}
 
 module _ {A : Type 0} where
@@ -38,6 +40,11 @@ module _ {A B : Type 0} where
 abbrev pub SaysString : Bytes → Cursor → Reader Bytes → ℕ → SpanRead → Type 0
 SaysString call at r limit answer = Says call at r part (λ s. within s limit) (answer .span) (answer .next)
 
+-- and of an optional string
+abbrev pub SaysOption : Bytes → Cursor → Reader (Option Bytes) → ℕ → OptSpanRead → Type 0
+SaysOption call at r limit answer = Says call at r optPart (λ s. optWithin s limit) (answer .span) (answer .next)
+
+-- the first fault stays
 abbrev pub refused : Cursor → ℕ → Cursor
 refused (At i) n = Fault n
 refused (Fault k) n = Fault k

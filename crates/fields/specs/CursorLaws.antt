@@ -1,10 +1,10 @@
 -- How readings join: every chain of fields is `step` after `step`, with `tested` where a test may refuse, and `done` at its end.
 -- `becomes` makes one value of another.
-use Prim.Native.Nat.{ℕ, _≤_}
+use Prim.Native.Nat.{ℕ}
 use mathlib.Core.Path.{_≡_, refl, sym, ap, _∙_}
 use mathlib.Core.Bool.{Bool, true, false, cond}
 use Rattle.octets.specs.Bytes.{Bytes}
-use Rattle.definition.specs.Reader.{Out, got, bad, Reader, next, _>>=_, give, refuse, into}
+use Rattle.definition.specs.Reader.{Out, Reader, next, _>>=_, give, refuse, into}
 use Rattle.fields.specs.Cursor.{outAt, from, Reads, refusedUnless}
 use Rattle.fields.specs.declared.Cursor.{Cursor}
 use Rattle.fields.specs.declared.Cursor.the-variants.{At, Fault}

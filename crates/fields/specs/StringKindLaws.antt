@@ -3,8 +3,8 @@ use Prim.Native.Nat.{ℕ}
 use mathlib.Core.Path.{_≡_, refl, _∙_}
 use mathlib.Core.Bool.{cond}
 use Rattle.octets.specs.Bytes.{Bytes}
-use Rattle.definition.specs.Reader.{Out, got, bad, Reader, _>>=_, next, give, refuse, blob, text}
-use Rattle.fields.specs.Cursor.{from, Reads}
+use Rattle.definition.specs.Reader.{Out, got, bad, _>>=_, next, give, refuse, blob, text}
+use Rattle.fields.specs.Cursor.{Reads}
 use Rattle.fields.specs.StringKind.{stringBy, obeyed}
 use Rattle.fields.specs.declared.Cursor.{Cursor}
 use Rattle.fields.specs.declared.Cursor.the-variants.{At, Fault}

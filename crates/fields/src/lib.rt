@@ -18,8 +18,8 @@ ghost use Prim.Native.Nat.{_+_, _^_, _≤_, _<_};
 ghost use lib.Dec.{leb};
 ghost use lib.ListN.{length};
 ghost use Rattle.definition.specs.Reader.{bytes, number, choice, blob, text, optional, causeText};
-ghost use Rattle.model.specs.Meaning.{optPart, causePart, optWithin, causeWithin};
-ghost use Rattle.fields.specs.Cursor.{refusedUnless, noBytes, bytesFrom, Reads, Says, SaysString, IsCause};
+ghost use Rattle.model.specs.Meaning.{causePart, causeWithin};
+ghost use Rattle.fields.specs.Cursor.{refusedUnless, noBytes, bytesFrom, Reads, Says, SaysString, SaysOption, IsCause};
 ghost use Rattle.fields.specs.StringKind.{obeyed, stringBy};
 
 // Where the reading of a call stands: at a place, or at its first fault, by its number.
@@ -190,7 +190,7 @@ pub fn text_at(call: &[u8], at: Cursor, limit: usize) -> SpanRead
 
 // An optional string: byte 0, or byte 1 and the string.
 pub fn option_at(call: &[u8], at: Cursor, limit: usize, kind: StringKind) -> OptSpanRead
-    ensures { λ r. ⌜ Says (now (call .entry)) at (optional (stringBy kind limit)) optPart (λ s. optWithin s limit) (r .span) (r .next) ⌝ }
+    ensures { λ r. ⌜ SaysOption (now (call .entry)) at (optional (stringBy kind limit)) limit r ⌝ }
 {
     let b = choice_at(call, at, 0, 1);
     let next = b.next;

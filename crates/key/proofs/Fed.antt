@@ -1,7 +1,6 @@
 -- Laws of what is fed to the hash: an object's strings.
 use mathlib.Core.Path.{_≡_}
 use mathlib.Core.List.{[], _∷_, _++_, append-assoc, append-nil}
-use Prim.Native.Nat.{_+_, _-_}
 use Rattle.octets.specs.Bytes.{Bytes}
 use Rattle.definition.specs.Key.{string, strings}
 

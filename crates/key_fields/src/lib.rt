@@ -10,7 +10,6 @@ use model::KeyFields;
 use model::Places;
 use model::Record;
 use model::Span;
-ghost use mathlib.Core.Path.{_≡_};
 ghost use Rattle.octets.specs.Bytes.{Bytes};
 ghost use Rattle.definition.specs.Limits.{shortLimit};
 ghost use Rattle.definition.specs.Reader.{into, text};
