@@ -1,12 +1,15 @@
 -- 30, "shorter than 1,552 (ops 1 to 7, 11)", as one test before the step; and the dispatch's arms in the words of the definition.
 use Prim.Native.Nat.{ℕ, _≤_, _<_}
-use mathlib.Core.Path.{_≡_, refl, ap, subst}
-use mathlib.Core.Bool.{Bool, true, false, cond}
-use borrow.Author.Tests.{lt-ltb, le-ltb}
+use mathlib.Core.Path.{_≡_, refl, ap}
+use mathlib.Core.Bool.{Bool, true, false, cond, _&&_}
+use native.Mathlib.Omega.{arith}
+use borrow.Author.Tests.{lt-ltb, le-ltb, ltb-true, ltb-false}
+use lib.Dec.{ltb}
 use Rattle.octets.specs.Bytes.{Bytes}
 use Rattle.definition.specs.Value.{PlainValue, PolicyValue, CallValue, Action, acknowledging, suppressing, opOf}
 use Rattle.definition.specs.Station.{Step, _>>=_}
 use Rattle.definition.specs.Answer.{Answer}
+use Rattle.definition.specs.Steps.{plain, policy}
 use Rattle.definition.specs.Perform.{stepFor, inRecord, inLength, asksRecord, perform}
 use Rattle.definition.specs.Sound.{station}
 use Rattle.definition.specs.Contracts.Does.{Refuses}
@@ -16,6 +19,14 @@ use Rattle.reply.specs.ReplyLaws.{replies-at}
 use Rattle.operations.specs.Meaning.{withRoom}
 
 -- ---- the test
+
+pub lacks : (x : Bool) (n : ℕ) → x && ltb n 1552 ≡ true → (x ≡ true) × (n < 1552)
+lacks true n e = (refl, ltb-true n 1552 e)
+lacks false n e = absurd (let z : _≡_ {A = ℕ} 0 1 = cc in omega arith)
+
+pub suffices : (x : Bool) (n : ℕ) → x && ltb n 1552 ≡ false → x ≡ true → 1552 ≤ n
+suffices true n e q = omega (arith, ltb-false n 1552 e)
+suffices false n e q = absurd (let z : _≡_ {A = ℕ} 0 1 = cc in omega arith)
 
 module _ (c : CallValue) (n : ℕ) where
   pub no-room : (b a : Bytes) → asksRecord (opOf c) ≡ true → n < 1552 → Refuses (perform c n) b b a a 30
@@ -42,9 +53,13 @@ pub policy-asks : (x : Action) (p : PolicyValue) → asksRecord (opOf (CallValue
 policy-asks acknowledging p = refl
 policy-asks suppressing p = refl
 
--- a step that asks for a record
-pub steps : (c : CallValue) (n : ℕ) (y : Reply) (b b′ a a′ : Bytes) → asksRecord (opOf c) ≡ true → Replies y (stepFor c) b b′ a a′ → Replies y (withRoom c n) b b′ a a′
-steps c n y b b′ a a′ e w = rw e w
+-- so they are their steps
+module _ (n : ℕ) (y : Reply) (b b′ a a′ : Bytes) where
+  pub plain-steps : (x : Action) (p : PlainValue) → Replies y (plain x p) b b′ a a′ → Replies y (withRoom (CallValue.plain x p) n) b b′ a a′
+  plain-steps x p w = rw (plain-asks x p) w
+
+  pub policy-steps : (x : Action) (p : PolicyValue) → Replies y (policy x p) b b′ a a′ → Replies y (withRoom (CallValue.policy x p) n) b b′ a a′
+  policy-steps x p w = rw (policy-asks x p) w
 
 -- what the parser refused stays refused
 pub stays-refused : (k n : ℕ) (b a : Bytes) → Refuses (withRoom (CallValue.refused k) n) b b a a k

@@ -6,23 +6,18 @@
 // what was found (`raising::raise_at`, `state::clear_at`). A new operation is a line of the dispatch, one of `asks_record`, and a crate.
 // Next: specs/RoomLaws.antt, and the crate of the operation that you look for.
 ghost use mathlib.Core.Path.{_≡_};
-ghost use mathlib.Core.Bool.{_&&_, true};
-ghost use Prim.Native.Nat.{_≤_};
-ghost use lib.Dec.{ltb};
 ghost use lib.ListN.{length};
 ghost use Rattle.octets.specs.Bytes.{Bytes};
 ghost use Rattle.definition.specs.Value.{opOf};
-ghost use Rattle.definition.specs.Contracts.LegalFields.{LegalRaise, LegalCall};
 ghost use Rattle.definition.specs.Contracts.Does.{Answers};
 ghost use Rattle.definition.specs.Steps as S;
 ghost use Rattle.definition.specs.Perform.{asksRecord, perform as performed};
 ghost use Rattle.raise_fields.specs.Meaning.{raiseValue, clearValue};
-ghost use Rattle.call.specs.Meaning.{meaning, parsedWithin};
-ghost use Rattle.history.specs.Meaning.{Standing};
+ghost use Rattle.call.specs.Meaning.{meaning};
 ghost use Rattle.raising.specs.Meaning.{Ready};
 ghost use Rattle.state.specs.Meaning.{Clearing};
 ghost use Rattle.reply.specs.Meaning.{Replies};
-ghost use Rattle.operations.specs.Meaning.{withRoom};
+ghost use Rattle.operations.specs.Meaning.{Called, HasRoom, withRoom};
 use call::Parsed;
 use model::Record;
 use raise_fields::Clear;
@@ -103,8 +98,8 @@ fn dispatch(
     parsed: Parsed,
     answer: &mut [u8],
 ) -> Reply
-    requires { ⌜ Standing (now register) ends × parsedWithin (now call) parsed × LegalCall (meaning (now call) parsed) ⌝ }
-    requires { ⌜ asksRecord (opOf (meaning (now call) parsed)) ≡ true → 1552 ≤ length (now answer) ⌝ }
+    requires { ⌜ Called (now register) ends (now call) parsed ⌝ }
+    requires { ⌜ HasRoom (meaning (now call) parsed) (length (now answer)) ⌝ }
     ensures { λ y.
         ⌜ Replies
         y
@@ -157,7 +152,7 @@ pub fn perform(
     parsed: Parsed,
     answer: &mut [u8],
 ) -> Reply
-    requires { ⌜ Standing (now register) ends × parsedWithin (now call) parsed × LegalCall (meaning (now call) parsed) ⌝ }
+    requires { ⌜ Called (now register) ends (now call) parsed ⌝ }
     ensures { λ y.
         ⌜ Replies
         y

@@ -1,0 +1,40 @@
+-- `raise`: the step, given what the search for the key found.
+use mathlib.Core.Path.{_≡_, subst}
+use borrow.Author.Needs.{needs}
+use denote.Ref.{now}
+use Rattle.definition.specs.Alarm.{hasKey}
+use Rattle.definition.specs.Laws.Steps.SoundStation.{sound-holds}
+use Rattle.history.specs.SoughtLaws.{sought}
+use Rattle.operations.specs.SearchLaws.{raise-sought}
+use Rattle.operations.proofs.raise.Statement.{statement}
+use Rattle.operations.proofs.raise.Tie as tie
+
+find-key-requires : tie.Need-find-key-requires
+find-key-requires c κs = sound-holds _ (c .before .before .before .before .before .before .before .pre .standing .whole) .book
+
+raise-at-requires : tie.Need-raise-at-requires
+raise-at-requires c κs =
+    let f = c .before .before .before in
+    let s = f .before .before .before .before .before .before .before .before in
+    (s .pre, search needs, sought _ (s .pre .standing .whole) (hasKey _) _ (f .find-key .ensures) .1)
+
+returns : tie.Need-returns
+returns c =
+    let r = c .before .before .before .before in
+    let f = r .before .before .before .before in
+    let k = f .before .before .before in
+    let s = k .before .before .before .before .before in
+    raise-sought (r .raise-at .result) _ _ _ _ _ _ (sought _ (s .pre .standing .whole) (hasKey _) _ (f .find-key .ensures) .0) _ (k .key-of .ensures) (r .raise-at .ensures)
+
+pub raise-spec : {M : Type 1} → statement M
+raise-spec =
+    tie.close
+    (tie.spec
+    (λ c κs. search needs)
+    (λ c. search needs)
+    find-key-requires
+    (λ c. search needs)
+    raise-at-requires
+    (λ c. search needs)
+    (λ c. search needs)
+    returns)
