@@ -1,7 +1,15 @@
-// The bytes of answers: a head of 16, and a body behind it. Each function returns the place behind what it wrote.
+// The bytes of answers. An answer is a head of 16 bytes and a body behind it: the definition's `answerBytes` for each
+// of its answers (definition, specs/Answer.antt).
+//
+// Each function writes into the answer slice from a place on and returns the place behind what it wrote; its contract
+// is `Put` of octets, which says just that of the bytes. So parts join to whole answers by one law, `put-two`, here
+// and in the crates that answer. Every part fits: the caller has refused with 30 before anything is written.
+//
+// Lists are written entry by entry with the head last (specs/EntryLaws.antt); that an answer is the one which a step
+// promises is in specs/AnswerLaws.antt.
 use model::CauseSpan;
 ghost use mathlib.Core.Path.{_≡_};
-ghost use mathlib.Core.List.{_∷_, _++_};
+ghost use mathlib.Core.List.{_++_};
 ghost use Prim.Native.Nat.{_+_, _≤_, _<_};
 ghost use lib.ListN.{length};
 ghost use Rattle.octets.specs.Bytes.{be32};
@@ -10,6 +18,7 @@ ghost use Rattle.definition.specs.Book.{payloadWidth};
 ghost use Rattle.definition.specs.Key.{string, hex};
 ghost use Rattle.definition.specs.Answer.{ClearWithoutActive, ActiveLimitExceeded, Expired, Summary, head, headBytes, answerBytes};
 ghost use Rattle.model.specs.Meaning.{causePart, causeWithin};
+ghost use Rattle.answers.specs.Meaning.{Answered, entry};
 
 // A head: code, three zeros, item count, number.
 pub fn put_head(answer: &mut [u8], code: u8, count: u32, number: u64) -> usize
@@ -37,7 +46,7 @@ pub fn put_record(answer: &mut [u8], at: usize, payload: &[u8]) -> usize
 // How many active alarms have a severity and a cause, as operation 10 lists it.
 pub fn put_count(answer: &mut [u8], at: usize, severity: u8, amount: u32, cause: &[u8]) -> usize
     requires { ⌜ (at + (9 + length (now cause)) ≤ length (now answer)) × (length (now cause) < 4294967296) ⌝ }
-    ensures { λ r. ⌜ Put (now (answer .entry)) at (severity ∷ (be32 amount ++ string (now (cause .entry)))) r (now (answer .exit)) ⌝ }
+    ensures { λ r. ⌜ Put (now (answer .entry)) at (entry severity amount (now (cause .entry))) r (now (answer .exit)) ⌝ }
 {
     octets::put_byte(answer, at, severity);
     let n = at + 1;
@@ -51,7 +60,7 @@ pub fn put_count(answer: &mut [u8], at: usize, severity: u8, amount: u32, cause:
 // An alarm: codes 1, 2, 6 and 7.
 pub fn put_alarm(answer: &mut [u8], code: u8, payload: &[u8]) -> usize
     requires { ⌜ (1552 ≤ length (now answer)) × (length (now payload) ≡ payloadWidth) ⌝ }
-    ensures { λ r. ⌜ Put (now (answer .entry)) 0 (headBytes (head code 1 0) ++ (be32 0 ++ now (payload .entry))) r (now (answer .exit)) ⌝ }
+    ensures { λ r. ⌜ Answered (now (answer .entry)) (head code 1 0) (be32 0 ++ now (payload .entry)) r (now (answer .exit)) ⌝ }
 {
     let n = put_head(answer, code, 1, 0);
     put_record(answer, n, payload)
@@ -60,7 +69,7 @@ pub fn put_alarm(answer: &mut [u8], code: u8, payload: &[u8]) -> usize
 // An id or a message: codes 3, 8, 9 and 10.
 pub fn put_text(answer: &mut [u8], code: u8, s: &[u8]) -> usize
     requires { ⌜ (20 + length (now s) ≤ length (now answer)) × (length (now s) < 4294967296) ⌝ }
-    ensures { λ r. ⌜ Put (now (answer .entry)) 0 (headBytes (head code 0 0) ++ string (now (s .entry))) r (now (answer .exit)) ⌝ }
+    ensures { λ r. ⌜ Answered (now (answer .entry)) (head code 0 0) (string (now (s .entry))) r (now (answer .exit)) ⌝ }
 {
     let n = put_head(answer, code, 0, 0);
     strings::put_string(answer, n, s)
@@ -79,7 +88,7 @@ pub fn put_number(answer: &mut [u8], n: u64) -> usize
 // A head, and the key's digits.
 fn put_key(answer: &mut [u8], code: u8, number: u64, key: &[u8]) -> usize
     requires { ⌜ (48 ≤ length (now answer)) × (length (now key) ≡ 16) ⌝ }
-    ensures { λ r. ⌜ Put (now (answer .entry)) 0 (headBytes (head code 0 number) ++ hex (now (key .entry))) r (now (answer .exit)) ⌝ }
+    ensures { λ r. ⌜ Answered (now (answer .entry)) (head code 0 number) (hex (now (key .entry))) r (now (answer .exit)) ⌝ }
 {
     let n = put_head(answer, code, 0, number);
     key::put_hex(answer, n, key);

@@ -1,4 +1,3 @@
-pub mod Wrote
-pub mod Lent
 pub mod Stretches
-pub mod Cases
+pub mod EventStretches
+pub mod Lent

@@ -7,14 +7,13 @@ use model::Record;
 use model::Span;
 use record::AlarmAt;
 ghost use mathlib.Core.Path.{_≡_};
-ghost use mathlib.Core.List.{_∷_};
 ghost use lib.ListN.{length};
-ghost use Rattle.octets.specs.Bytes.{zeros, splice};
+ghost use Rattle.octets.specs.Bytes.{splice};
 ghost use Rattle.definition.specs.Limits.{shortLimit};
 ghost use Rattle.definition.specs.Book.{payloadWidth};
-ghost use Rattle.definition.specs.Slot.{join, option};
-ghost use Rattle.definition.specs.Record.{short, causeSlot, objectParts, objectSlot};
-ghost use Rattle.model.specs.Meaning.{part, optPart, causePart, objectValue, within, optWithin, causeWithin, objectWithin};
+ghost use Rattle.definition.specs.Record.{causeSlot, objectSlot};
+ghost use Rattle.model.specs.Meaning.{causePart, objectValue, within, optWithin, causeWithin, objectWithin};
+ghost use Rattle.build.specs.Stretch.{pairOf, singleOf, storeOf};
 
 // The cause in its stored form. It is put as a string of a call first, with a length of four bytes.
 pub(crate) fn cause_into(p: &mut [u8], call: &[u8], c: CauseSpan)
@@ -31,7 +30,7 @@ pub(crate) fn cause_into(p: &mut [u8], call: &[u8], c: CauseSpan)
 // Two strings, and a queue, which is 0 where the kind has none.
 fn pair_into(p: &mut [u8], call: &[u8], kind: u8, a: Span, b: Span, queue: u16)
     requires { ⌜ (length (now p) ≡ payloadWidth) × within (now call) shortLimit a × within (now call) shortLimit b ⌝ }
-    ensures { λ _. ⌜ now (p .exit) ≡ splice (now (p .entry)) 273 (join (objectParts kind (part (now (call .entry)) a) (0 ∷ short .put (part (now (call .entry)) b)) queue)) ⌝ }
+    ensures { λ _. ⌜ now (p .exit) ≡ splice (now (p .entry)) 273 (pairOf (now (call .entry)) kind a b queue) ⌝ }
 {
     slots::marked_into(p, AlarmAt::OBJECT, Record::SHORT, kind, call, a);
     slots::marked_into(p, AlarmAt::OBJECT + 67, Record::SHORT, 0, call, b);
@@ -41,7 +40,7 @@ fn pair_into(p: &mut [u8], call: &[u8], kind: u8, a: Span, b: Span, queue: u16)
 // One string.
 fn single_into(p: &mut [u8], call: &[u8], kind: u8, a: Span)
     requires { ⌜ (length (now p) ≡ payloadWidth) × within (now call) shortLimit a ⌝ }
-    ensures { λ _. ⌜ now (p .exit) ≡ splice (now (p .entry)) 273 (join (objectParts kind (part (now (call .entry)) a) (zeros 67) 0)) ⌝ }
+    ensures { λ _. ⌜ now (p .exit) ≡ splice (now (p .entry)) 273 (singleOf (now (call .entry)) kind a) ⌝ }
 {
     slots::marked_into(p, AlarmAt::OBJECT, Record::SHORT, kind, call, a);
     octets::put_zeros(p, AlarmAt::OBJECT + 67, 67);
@@ -51,7 +50,7 @@ fn single_into(p: &mut [u8], call: &[u8], kind: u8, a: Span)
 // A session store, with its shard.
 fn store_into(p: &mut [u8], call: &[u8], a: Span, shard: OptSpan)
     requires { ⌜ (length (now p) ≡ payloadWidth) × within (now call) shortLimit a × optWithin (now call) shortLimit shard ⌝ }
-    ensures { λ _. ⌜ now (p .exit) ≡ splice (now (p .entry)) 273 (join (objectParts 4 (part (now (call .entry)) a) (option short .put (optPart (now (call .entry)) shard)) 0)) ⌝ }
+    ensures { λ _. ⌜ now (p .exit) ≡ splice (now (p .entry)) 273 (storeOf (now (call .entry)) a shard) ⌝ }
 {
     slots::marked_into(p, AlarmAt::OBJECT, Record::SHORT, 4, call, a);
     slots::option_into(p, AlarmAt::OBJECT + 67, Record::SHORT, call, shard);

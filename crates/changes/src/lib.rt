@@ -1,4 +1,10 @@
-// An alarm changed as a step changes it, in its payload.
+// An alarm changed as a step changes it: by an action, a clear, an expiry, or a raise that finds its key active.
+//
+// Each function turns the payload of a sound alarm into that of the alarm which the definition's step makes of it
+// (`actedOn`, `clearedBy`, `expiredBy`, `updatedBy` in definition, specs/Steps.antt). It is a row of setters of
+// `record`, in which each gives what its field becomes; specs/ChangeLaws.antt joins them to the step's change. No
+// function looks at a byte. What a raise brings to the alarm is `News`, so that this crate does not know the parser of
+// raises.
 ghost use mathlib.Core.Path.{_≡_};
 ghost use mathlib.Core.Option.{some};
 ghost use lib.ListN.{length};
@@ -70,9 +76,7 @@ fn put_details(p: &mut [u8], call: &[u8], s: Span)
     requires { ⌜ (length (now p) ≡ payloadWidth) × within (now call) detailsLimit s ⌝ }
     ensures { λ _. ⌜ Turns (withDetails (some (part (now (call .entry)) s))) (now (p .entry)) (now (p .exit)) ⌝ }
 {
-    let a = s.at;
-    let e = a + s.len;
-    record::set_details(p, &call[a..e]);
+    record::set_details(p, model::part(call, s));
 }
 
 fn set_details(p: &mut [u8], call: &[u8], details: OptSpan)
@@ -89,9 +93,7 @@ fn set_text(p: &mut [u8], call: &[u8], s: Span)
     requires { ⌜ (length (now p) ≡ payloadWidth) × within (now call) textLimit s ⌝ }
     ensures { λ _. ⌜ Turns (withText (part (now (call .entry)) s)) (now (p .entry)) (now (p .exit)) ⌝ }
 {
-    let a = s.at;
-    let e = a + s.len;
-    record::set_text(p, &call[a..e]);
+    record::set_text(p, model::part(call, s));
 }
 
 // What a raise brings to an alarm that is active.

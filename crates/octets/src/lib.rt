@@ -1,4 +1,11 @@
 // Byte slices: numbers at a place, the most significant byte first; bytes compared, copied and zeroed.
+//
+// The lowest crate. What a slice holds is a list of numbers (`Bytes`, specs/Bytes.antt), each below 256, and every
+// contract above speaks of such lists by the words defined there: `numberAt`, `digits`, `splice` for bytes replaced
+// from a place on, `same`, `blank`. What is written part behind part is `Put` (specs/Put.antt). The other files of
+// specs/ are laws of these words; look there before proving something of lists.
+//
+// A function that writes takes the slice and a place, and promises `splice`: just these bytes are replaced.
 ghost use mathlib.Core.Path.{_≡_};
 ghost use mathlib.Core.List.{[], _∷_};
 ghost use Prim.Native.Nat.{_+_, _^_, _≤_, _<_};

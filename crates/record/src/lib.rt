@@ -1,16 +1,24 @@
-// The fields of an alarm in the payload of its record, the bytes behind the next index: read, compared and changed in place.
+// The fields of an alarm in its payload, the 1,532 bytes of a record behind the next index: read, compared, and
+// changed in place. Where each field stands is said here once for all code (`AlarmAt`, `EventAt`); docs/LAYOUT.md has
+// the tables.
+//
+// Readers promise the field of the definition's `readAlarm` of the bytes, whatever these are. Setters promise
+// `Becomes` (specs/Change.antt): just these bytes are replaced, and what held an alarm holds it with that field
+// changed. A setter's proof is the number of its slot, since one law of `definition` has all slots. A string's
+// slot has room for the longest string of its field, with zeros behind a shorter one: `put_string` writes both.
 ghost use mathlib.Core.Path.{_≡_};
 ghost use mathlib.Core.List.{[], _∷_};
 ghost use mathlib.Core.Option.{none, some};
 ghost use Prim.Native.Nat.{_+_, _≤_};
 ghost use lib.Dec.{T};
-ghost use lib.ListN.{length, take, drop};
+ghost use lib.ListN.{length};
 ghost use Rattle.octets.specs.Bytes.{same, zeros, digits, splice};
 ghost use Rattle.definition.specs.Limits.{textLimit, detailsLimit};
 ghost use Rattle.definition.specs.Alarm.{sameMaybe, sameIdentity, withSeverity, withState, withUpdated, withCleared, withText, withDetails};
 ghost use Rattle.definition.specs.Book.{payloadWidth};
-ghost use Rattle.definition.specs.Slot.{string, stringBytes, option};
-ghost use Rattle.definition.specs.Record.{anyBytes, lastState, readAlarm, soundAlarm};
+ghost use Rattle.definition.specs.Slot.{stringBytes};
+ghost use Rattle.definition.specs.Record.{lastState, readAlarm, soundAlarm};
+ghost use Rattle.record.specs.Meaning.{stringAt, optionAt};
 ghost use Rattle.record.specs.Change.{Becomes};
 use model::Record;
 
@@ -113,7 +121,7 @@ pub fn updated_at(p: &[u8]) -> u64
 // The string in a slot; all of its room where the length is above it.
 fn string_of(p: &[u8], at: usize, n: usize) -> &[u8]
     requires { ⌜ (length (now p) ≡ payloadWidth) × (at + (2 + n) ≤ payloadWidth) ⌝ }
-    ensures { λ r. ⌜ now r ≡ string n anyBytes .get (take (2 + n) (drop at (now (p .entry)))) ⌝ }
+    ensures { λ r. ⌜ now r ≡ stringAt n (now (p .entry)) at ⌝ }
 {
     let m = octets::get16(p, at) as usize;
     let a = at + 2;
@@ -142,7 +150,7 @@ pub fn cause(p: &[u8]) -> &[u8]
 // Whether the slot of an optional string has one, and it is s.
 pub fn has_some(p: &[u8], at: usize, n: usize, s: &[u8]) -> bool
     requires { ⌜ (length (now p) ≡ payloadWidth) × (at + (3 + n) ≤ payloadWidth) ⌝ }
-    ensures { λ r. ⌜ r ≡ sameMaybe same (some (now (s .entry))) (option (string n anyBytes) .get (take (3 + n) (drop at (now (p .entry))))) ⌝ }
+    ensures { λ r. ⌜ r ≡ sameMaybe same (some (now (s .entry))) (optionAt n (now (p .entry)) at) ⌝ }
 {
     if p[at] == 0 {
         return false;

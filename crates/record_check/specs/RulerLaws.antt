@@ -14,7 +14,7 @@ use Rattle.octets.specs.Bytes.{Bytes, Octets, same, zeros, blank, splice}
 use Rattle.octets.specs.BoolLaws.{and-assoc}
 use Rattle.octets.specs.RangeLaws.{eq-on}
 use Rattle.octets.specs.BlankLaws.{blank-step}
-use Rattle.definition.specs.Laws.Text.Utf8.{plain}
+use Rattle.utf8.specs.Meaning.{plain}
 use Rattle.record_check.specs.Ruler.{highs, ones, rulerBytes, under}
 
 -- ---- byte by byte

@@ -1,15 +1,16 @@
-// A string's room: the string, and what stands behind it. Both are tested in one loop whose number of turns is the room's and not the
-// string's, so that LLVM takes many bytes at a time and the processor foresees each turn.
+// A string's room is the bytes that its slot reserves for it: the string, and what stands behind it. Both are tested
+// in one loop whose number of turns is the room's and not the string's, so that LLVM takes many bytes at a time and
+// the processor foresees each turn.
 //
-// For that a ruler is laid along the room: 512 bytes of the highest bit alone, the width of the widest room, and then 512 bytes of ones.
-// The former end where the string ends: `and` with the ruler leaves the highest bits of the string, which ASCII has not, and all that
-// stands behind it.
+// For that a ruler is laid along the room: 512 bytes of the highest bit alone, the width of the widest room, and then
+// 512 bytes of ones. The former end where the string ends: `and` with the ruler leaves the highest bits of the string,
+// which ASCII has not, and all that stands behind it.
 ghost use mathlib.Core.Path.{_≡_};
 ghost use mathlib.Core.Bool.{_&&_};
 ghost use Prim.Native.Nat.{_≤_};
 ghost use lib.ListN.{length, take, drop};
 ghost use Rattle.octets.specs.Bytes.{blank};
-ghost use Rattle.definition.specs.Laws.Text.Utf8.{plain};
+ghost use Rattle.utf8.specs.Meaning.{plain};
 ghost use Rattle.record_check.specs.Ruler.{rulerBytes, under};
 
 // Whether `and` with the ruler leaves nothing of the room.

@@ -1,5 +1,8 @@
-// Prints digests in hex, one to a line: of messages of every length from 0 to 300 bytes, and of the long ones that FIPS 180 publishes.
-// The expected output, the file `stdout`, is made by another SHA-256, that of Python: `python3 tests/vectors/sha256.py`.
+// Prints digests in hex, one to a line: of messages of every length from 0 to 300 bytes, and of the long ones that
+// FIPS 180 publishes. The expected output, the file `stdout`, is made by another SHA-256, that of Python: `python3
+// tests/vectors/sha256.py`.
+//
+// The proof says that the code is the definition; this program holds both to the world outside.
 use libc::STDOUT_FILENO;
 
 fn wide(x: u8) -> u64 {

@@ -1,4 +1,8 @@
-// Times: signed 64-bit counts, kept as their 64 bits.
+// Times: signed 64-bit counts, kept as their 64 bits, as a call and a record hold them.
+//
+// There are no signed numbers in the code: adding 2^63 modulo 2^64 turns the signed order into that of unsigned
+// numbers, and the definition compares in the same way (`before` in definition, specs/Alarm.antt; docs/DECISIONS.md,
+// 4.8).
 ghost use mathlib.Core.Path.{_≡_};
 ghost use Rattle.definition.specs.Alarm.{before, late as theLate};
 use std::num::wrapping_add_u64;

@@ -11,7 +11,7 @@ use lib.Seq.{take-suc}
 use Rattle.octets.specs.Bytes.{Bytes}
 use Rattle.octets.specs.BoolLaws.{and-assoc, and-true}
 use Rattle.octets.specs.OrLaws.{or-below}
-use Rattle.definition.specs.Laws.Text.Utf8.{plain}
+use Rattle.utf8.specs.Meaning.{plain}
 
 plain-append : (s t : Bytes) → plain (s ++ t) ≡ plain s && plain t
 unfolding plain

@@ -1,12 +1,16 @@
 // UTF-8 by RFC 3629, section 4: which byte strings are well formed.
+//
+// The definition has the RFC's rows of byte ranges, and a string is well formed if it is a run of rows (`utf8` in
+// definition, specs/Utf8.antt). The code goes another way and is proved equal: strings of ASCII, which most are, in
+// one quick loop; any other byte by byte, with what must still come of a character (`Follow`, specs/Meaning.antt). A
+// byte that fits no row leaves a `Follow` that nothing meets, so that the loop needs no way out.
 ghost use mathlib.Core.Path.{_≡_};
 ghost use mathlib.Core.List.{[]};
 ghost use Prim.Native.Nat.{_<_, _≤_};
 ghost use Rattle.definition.specs.Utf8.{_–_, utf8};
-ghost use Rattle.definition.specs.Laws.Text.Utf8.{plain};
-ghost use Rattle.utf8.specs.Meaning.{toCome, ranges, after};
+ghost use Rattle.utf8.specs.Meaning.{plain, toCome, ranges, after};
 
-// What must still come of a character: `more` bytes, the next of them from lo to hi. Where lo is above hi, none can come.
+// What must still come of a character: `more` bytes, the next of them from lo to hi. Where lo is above hi, none can.
 struct Follow {
     more: u8,
     lo: u8,

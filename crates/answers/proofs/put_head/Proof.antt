@@ -3,7 +3,7 @@ use mathlib.Core.Path.{refl}
 use native.Mathlib.Omega.{arith}
 use Rattle.octets.specs.Bytes.{zeros}
 use Rattle.octets.specs.NumberLaws.{length-digits}
-use Rattle.octets.specs.PutLaws.{put-two}
+use Rattle.answers.proofs.Parts.{part, _then_}
 use borrow.Author.Needs.{needs}
 use Rattle.answers.proofs.put_head.Statement.{statement}
 use Rattle.answers.proofs.put_head.Tie as tie
@@ -11,19 +11,19 @@ use Rattle.answers.proofs.put_head.Tie as tie
 returns : tie.Need-returns
 unfolding zeros
 returns c =
-    let s = c .before .before .before .before .before .before .before .before .before .before .before .before .before .before .before .before .before .args in
-    put-two {m = 1} (record { next = refl; fits = omega arith; bytes = c .before .before .before .before .before .before .before .before .before .before .before .before .before .before .put-byte .ensures })
-    (put-two {m = 4} (record { next = refl; fits = omega arith; bytes = c .before .before .before .before .before .before .before .before .before .before .put-zeros .ensures })
-    (put-two {m = 8} (record { next = omega (arith, length-digits 4 (s .count)); fits = omega arith; bytes = c .before .before .before .before .before .before .put32 .ensures })
-    (record { next = omega (arith, length-digits 8 (s .number)); fits = omega arith; bytes = c .before .before .put64 .ensures })))
+    let number = c .before .before in
+    let count = number .before .before .before .before in
+    let three = count .before .before .before .before in
+    let code = three .before .before .before .before in
+    let s = code .before .before .before .args in
+    part (code .put-byte .ensures) refl (omega arith)
+    then part (three .put-zeros .ensures) refl (omega arith)
+    then part (count .put32 .ensures) (length-digits 4 (s .count)) (omega arith)
+    then part (number .put64 .ensures) (length-digits 8 (s .number)) (omega arith)
 
 pub put-head-spec : {M : Type 1} → statement M
 put-head-spec =
     tie.close
     (tie.spec
-    (λ c κs. search needs)
-    (λ c κs. search needs)
-    (λ c κs. search needs)
-    (λ c κs. search needs)
-    (λ c. search needs)
+    (λ c κs. search needs) (λ c κs. search needs) (λ c κs. search needs) (λ c κs. search needs) (λ c. search needs)
     returns)

@@ -11,19 +11,20 @@ use denote.Ref.{now}
 use Rattle.octets.specs.Bytes.{Bytes, same}
 use Rattle.octets.specs.PartLaws.{part-drop}
 use Rattle.definition.specs.Alarm.{sameMaybe}
-use Rattle.definition.specs.Slot.{string, option}
+use Rattle.definition.specs.Slot.{string}
 use Rattle.definition.specs.Laws.Record.Slot.{part-first}
 use Rattle.definition.specs.Record.{anyBytes}
+use Rattle.record.specs.Meaning.{stringAt, optionAt}
 use Rattle.record.proofs.has_some.Statement.{statement}
 use Rattle.record.proofs.has_some.Tie as tie
 
 module _ (p s : Bytes) (at n : ℕ) where
-  absent : getD p at 0 ≡ 0 → false ≡ sameMaybe same (some s) (option (string n anyBytes) .get (take (3 + n) (drop at p)))
+  absent : getD p at 0 ≡ 0 → false ≡ sameMaybe same (some s) (optionAt n p at)
   absent h = rw (part-first p at (3 + n) (omega arith), eq-eqb (getD p at 0) 0 h)
 
   present :
       (getD p at 0 ≡ 0 → ⊥) →
-      same s (string n anyBytes .get (take (2 + n) (drop (at + 1) p))) ≡ sameMaybe same (some s) (option (string n anyBytes) .get (take (3 + n) (drop at p)))
+      same s (stringAt n p (at + 1)) ≡ sameMaybe same (some s) (optionAt n p at)
   present h =
       let e : 3 + n ≡ 1 + (2 + n) = omega arith in
       let d : drop 1 (take (3 + n) (drop at p)) ≡ take (2 + n) (drop (at + 1) p) = ap (λ (m : ℕ). drop 1 (take m (drop at p))) e ∙ part-drop p at 1 (2 + n) in

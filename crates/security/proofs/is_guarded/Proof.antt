@@ -1,9 +1,8 @@
 -- `is_guarded`: the tests joined from left to right.
 use borrow.Author.Needs.{needs}
-use mathlib.Core.Path.{_≡_, refl}
+use mathlib.Core.Path.{_≡_, refl, sym}
 use mathlib.Core.Bool.{Bool, true, false, _||_}
 use mathlib.Core.List.{List, [], _∷_}
-use denote.Ref.{now}
 use Rattle.octets.specs.Bytes.{Bytes, same}
 use Rattle.definition.specs.Alarm.{guarded}
 use Rattle.definition.specs.Cause.{oneOf}
@@ -22,29 +21,17 @@ joined-one false [] s = refl
 joined-one true (n ∷ ns) s = joined-one true ns s
 joined-one false (n ∷ ns) s = joined-one (same n s) ns s
 
+one-joined : (s : Bytes) → oneOf guarded s ≡ joined false guarded s
+one-joined s = sym (joined-one false guarded s)
+
 returns : tie.Need-returns
-returns c = cc (joined-one false guarded (now (c .before .before .before .before .before .before .before .before .before .before .before .before .before .before .before .before .before .before .before .args .cause)))
+returns c = rw one-joined cc
 
 pub is-guarded-spec : {M : Type 1} → statement M
 is-guarded-spec =
     tie.close
     (tie.spec
-    (λ c. search needs)
-    (λ c κs. search needs)
-    (λ c. search needs)
-    (λ c κs. search needs)
-    (λ c. search needs)
-    (λ c κs. search needs)
-    (λ c. search needs)
-    (λ c κs. search needs)
-    (λ c. search needs)
-    (λ c κs. search needs)
-    (λ c. search needs)
-    (λ c κs. search needs)
-    (λ c. search needs)
-    (λ c κs. search needs)
-    (λ c. search needs)
-    (λ c κs. search needs)
-    (λ c. search needs)
-    (λ c κs. search needs)
+    (λ c. search needs) (λ c κs. search needs) (λ c. search needs) (λ c κs. search needs) (λ c. search needs) (λ c κs. search needs)
+    (λ c. search needs) (λ c κs. search needs) (λ c. search needs) (λ c κs. search needs) (λ c. search needs) (λ c κs. search needs)
+    (λ c. search needs) (λ c κs. search needs) (λ c. search needs) (λ c κs. search needs) (λ c. search needs) (λ c κs. search needs)
     returns)

@@ -6,7 +6,7 @@ use borrow.Author.Needs.{needs}
 use lib.Dec.{ltb}
 use lib.ListN.{length, take}
 use lib.Seq.{take-all}
-use Rattle.definition.specs.Laws.Text.Utf8.{plain}
+use Rattle.utf8.specs.Meaning.{plain}
 use Rattle.utf8.proofs.Plain.{plain-step}
 use Rattle.utf8.proofs.is_ascii.Statement.{statement}
 use Rattle.utf8.proofs.is_ascii.Tie as tie

@@ -2,7 +2,7 @@
 use mathlib.Core.Path.{_∙_, sym}
 use borrow.Author.Needs.{needs}
 use Rattle.octets.specs.BoolLaws.{true-holds}
-use Rattle.definition.specs.Laws.Text.Utf8.{plain-utf8}
+use Rattle.utf8.specs.PlainLaws.{plain-utf8}
 use Rattle.utf8.proofs.is_utf8.Statement.{statement}
 use Rattle.utf8.proofs.is_utf8.Tie as tie
 

@@ -19,8 +19,11 @@ part-put-string-start c =
 
 returns : tie.Need-returns
 returns c =
-    let s = c .before .before .before .before .before .before .before .before .before .before .before .args in
-    c .before .before .put-string .ensures ∙ ap (λ (x : Bytes). splice (s .p .now) 175 (stringBytes 96 x)) (string-behind (causePart (s .call .now) (s .c)) (c .before .before .before .before .before .before .before .put-cause .ensures))
+    let slot = c .before .before in
+    let string = slot .before .before .before .before .before in
+    let s = string .before .before .before .before .args in
+    slot .put-string .ensures
+    ∙ ap (λ (x : Bytes). splice (s .p .now) 175 (stringBytes 96 x)) (string-behind (causePart (s .call .now) (s .c)) (string .put-cause .ensures))
 
 pub cause-into-spec : {M : Type 1} → statement M
 cause-into-spec =

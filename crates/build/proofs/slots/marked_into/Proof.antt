@@ -1,25 +1,16 @@
--- The part lent is the one that the span names.
-use mathlib.Core.List.{_∷_}
-use Rattle.octets.specs.Bytes.{Bytes, splice}
-use Rattle.definition.specs.Slot.{stringBytes}
-use Rattle.build.proofs.Lent.{span-slot}
+-- The part of the call that the span names.
+use Rattle.record.specs.LentLaws.{lent-fits}
 use borrow.Author.Needs.{needs}
 use Rattle.build.proofs.slots.marked_into.Statement.{statement}
 use Rattle.build.proofs.slots.marked_into.Tie as tie
 
+put-marked-requires : tie.Need-put-marked-requires
+put-marked-requires c κs =
+    let s = c .before .before .before .before in
+    (search needs, lent-fits (s .args .call .now) (s .args .n) (s .args .s) (c .part .ensures) (s .pre .2), search needs)
+
 returns : tie.Need-returns
-returns c =
-    let s = c .before .before .before .before .before .before .before .before .args in
-    span-slot (s .call .now) (s .s) (λ (x : Bytes). splice (s .p .now) (s .at) (s .mark ∷ stringBytes (s .n) x)) (c .before .before .put-marked .ensures)
+returns c = rw (← c .before .before .before .part .ensures) (c .before .before .put-marked .ensures)
 
 pub marked-into-spec : {M : Type 1} → statement M
-marked-into-spec =
-    tie.close
-    (tie.spec
-    (λ c. search needs)
-    (λ c. search needs)
-    (λ c. search needs)
-    (λ c. search needs)
-    (λ c κs. search needs)
-    (λ c. search needs)
-    returns)
+marked-into-spec = tie.close (tie.spec (λ c κs. search needs) put-marked-requires (λ c. search needs) returns)

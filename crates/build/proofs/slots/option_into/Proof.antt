@@ -1,23 +1,19 @@
 -- Zeros, or byte 1 and the string.
 use Rattle.build.proofs.Lent.{absent}
-use Rattle.model.specs.CaseLaws.{option-case}
-use Rattle.build.proofs.Cases.{option-slot}
 use borrow.Author.Needs.{needs}
 use Rattle.build.proofs.slots.option_into.Statement.{statement}
 use Rattle.build.proofs.slots.option_into.Tie as tie
 
 marked-into-requires : tie.Need-marked-into-requires
-marked-into-requires c κs = let s = c .before .before .before .before .before .before in (search needs, search needs, option-case _ (s .args .n) (c .before .before .s .given .1) (s .pre .2))
+marked-into-requires c κs = let s = c .before .before .before .before .before .before in (search needs, search needs, rw (c .before .before .s .given .1) at (s .pre .2))
 
 returns : tie.Need-returns
 returns c =
     let s = c .before .before .before .before .before .before .before .before .args in
-    option-slot (s .call .now) (s .p .now) (s .at) (s .n) (c .before .before .before .before .enum-told .given .1) (absent (s .p .now) (s .at) (s .n) (c .before .before .put-zeros .ensures))
+    rw (c .before .before .before .before .enum-told .given .1) (absent (s .p .now) (s .at) (s .n) (c .before .before .put-zeros .ensures))
 
 returns-2 : tie.Need-returns-2
-returns-2 c =
-    let s = c .before .before .before .before .before .before .before .before .before .args in
-    option-slot (s .call .now) (s .p .now) (s .at) (s .n) (c .before .before .before .before .before .s .given .1) (c .before .before .marked-into .ensures)
+returns-2 c = rw (c .before .before .before .before .before .s .given .1) (c .before .before .marked-into .ensures)
 
 pub option-into-spec : {M : Type 1} → statement M
 option-into-spec =
