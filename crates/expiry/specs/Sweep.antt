@@ -13,7 +13,7 @@ use Rattle.definition.specs.Station.{forEach}
 use Rattle.definition.specs.Steps.{isDueEntry, retireDue}
 use Rattle.definition.specs.Contracts.Does.{Does}
 use Rattle.history.specs.Meaning.{Newest}
-use Rattle.history.specs.Walk.{Along}
+use Rattle.register.specs.Walk.{Along}
 use Rattle.expiry.specs.declared.Stand.{Stand}
 
 -- those of a chain that are due

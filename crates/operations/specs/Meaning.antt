@@ -11,7 +11,7 @@ use Rattle.definition.specs.Contracts.LegalFields.{LegalCall}
 use Rattle.call.specs.declared.Parsed.{Parsed}
 use Rattle.call.specs.Meaning.{meaning, parsedWithin}
 use Rattle.register.specs.declared.Ends.{Ends}
-use Rattle.history.specs.Meaning.{Standing}
+use Rattle.register.specs.Meaning.{Standing}
 
 -- a sound register with its chains' ends, and a call that was read from its bytes
 pub record Called (b : Bytes) (e : Ends) (call : Bytes) (p : Parsed) : Type 0 where

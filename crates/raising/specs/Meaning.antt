@@ -11,7 +11,7 @@ use Rattle.definition.specs.Steps.{change, updatedBy, raiseAt}
 use Rattle.raise_fields.specs.declared.Raise.{Raise}
 use Rattle.raise_fields.specs.Meaning.{raiseValue, RaiseWithin}
 use Rattle.register.specs.declared.Ends.{Ends}
-use Rattle.history.specs.Meaning.{Standing}
+use Rattle.register.specs.Meaning.{Standing}
 use Rattle.history.specs.Walk.{alarmAt}
 
 -- a sound register with its chains' ends, a raise that the call holds, and room for an alarm in the answer

@@ -5,7 +5,7 @@ use borrow.Author.Needs.{needs}
 use Rattle.octets.specs.Bytes.{Bytes}
 use Rattle.definition.specs.Alarm.{before}
 use Rattle.definition.specs.Record.{readAlarm}
-use Rattle.history.specs.FoundLaws.{content-width}
+use Rattle.register.specs.WalkLaws.{content-width}
 use Rattle.expiry.proofs.is_due.Statement.{statement}
 use Rattle.expiry.proofs.is_due.Tie as tie
 

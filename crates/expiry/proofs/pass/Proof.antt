@@ -2,7 +2,7 @@
 use mathlib.Core.Path.{sym, _∙_}
 use native.Mathlib.Omega.{arith}
 use borrow.Author.Needs.{needs}
-use Rattle.history.specs.FoundLaws.{on-fits}
+use Rattle.register.specs.WalkLaws.{on-fits}
 use Rattle.expiry.specs.SweepLaws.{sweep-due, sweep-kept}
 use Rattle.expiry.proofs.pass.Statement.{statement}
 use Rattle.expiry.proofs.pass.Tie as tie

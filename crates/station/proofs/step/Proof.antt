@@ -12,7 +12,7 @@ use Rattle.definition.specs.Laws.Text.ParsedLegal.{call-legal}
 use Rattle.register_check.specs.declared.Soundness.{Soundness}
 use Rattle.register_check.specs.Meaning.{Gives}
 use Rattle.reply.specs.Meaning.{Replies}
-use Rattle.station.specs.StepLaws.{standing, stepped, unsound}
+use Rattle.station.specs.StepLaws.{stepped, unsound}
 use Rattle.station.proofs.step.Statement.{statement}
 use Rattle.station.proofs.step.Tie as tie
 
@@ -26,8 +26,12 @@ perform-requires c κs =
     let l = p .before .before .before in
     let k = l .before .before in
     let s = k .before .before .before .before .before in
-    let g = checked (now (s .args .register)) (l .l .given .1) (k .check .ensures) in
-    (standing _ _ (g .0) (g .1), p .parse .ensures .1, subst (λ (v : CallValue). LegalCall v) (sym (p .parse .ensures .0)) (call-legal (now (s .args .call)) (λ i. omega (arith, k .before .before .before .shared-slice-known .given i))))
+    let g = checked (now (s .args .register)) (l .ends .given .1) (k .check .ensures) in
+    record {
+      standing = g;
+      within = p .parse .ensures .1;
+      legal = subst (λ (v : CallValue). LegalCall v) (sym (p .parse .ensures .0)) (call-legal (now (s .args .call)) (λ i. omega (arith, k .before .before .before .shared-slice-known .given i)));
+    }
 
 returns : tie.Need-returns
 returns c =
@@ -37,8 +41,8 @@ returns c =
     let k = l .before .before in
     let s = k .before .before .before .before .before in
     let b = now (s .args .register) in
-    let g = checked b (l .l .given .1) (k .check .ensures) in
-    stepped (o .perform .result) b (now (s .args .call)) (now (s .args .answer)) (o .perform .last .1 .1 .1 .1 .0) (o .perform .last .0) (g .0)
+    let g = checked b (l .ends .given .1) (k .check .ensures) in
+    stepped (o .perform .result) b (now (s .args .call)) (now (s .args .answer)) (o .perform .last .1 .1 .1 .1 .0) (o .perform .last .0) (g .whole)
     (subst (λ (v : CallValue). Replies (o .perform .result) (perform v (length (now (s .args .answer)))) b (o .perform .last .0) (now (s .args .answer)) (o .perform .last .1 .1 .1 .1 .0)) (p .parse .ensures .0) (o .perform .ensures))
 
 returns-2 : tie.Need-returns-2
