@@ -51,7 +51,7 @@ cut-from x (w ∷ ws) (p ∷ ps) f =
 pub cut-join : (ws : List ℕ) (ps : List Bytes) → Fits ws ps → cut 0 ws (join ps) ≡ ps
 cut-join ws ps f = cut-from [] ws ps f
 
-join-append : (ps qs : List Bytes) → join (ps ++ qs) ≡ join ps ++ join qs
+pub join-append : (ps qs : List Bytes) → join (ps ++ qs) ≡ join ps ++ join qs
 unfolding join
 join-append [] qs = refl
 join-append (p ∷ ps) qs = rw (join-append ps qs) (sym (append-assoc p (join ps) (join qs)))

@@ -1,4 +1,4 @@
--- UTF-8: ASCII, strings put together, and the definition as a run of rows. For causes, and for `utf8` and `record_check`.
+-- UTF-8: strings put together, and the definition as a run of rows. For causes, and for `utf8`.
 use mathlib.Core.Path.{_≡_, refl, sym, ap, _∙_, subst}
 use mathlib.Core.Logic.{_⊎_, inl, inr}
 use mathlib.Core.Bool.{Bool, true, false, cond, _&&_, _||_}
@@ -10,20 +10,6 @@ use lib.Dec.{T, leb, leb→le, ltb, leb·zero}
 use Rattle.octets.specs.Bytes.{Bytes}
 use Rattle.octets.specs.BoolLaws.{and-false, holds, true-holds, both-left, both-right}
 use Rattle.definition.specs.Utf8.{Range, Row, inside, rows, leads, follows, utf8From, utf8}
-
--- ---- ASCII
-
--- all bytes are below 128
-unfoldable pub plain : Bytes → Bool
-plain [] = true
-plain (b ∷ s) = ltb b 128 && plain s
-
-pub plain-utf8 : (s : Bytes) → T (plain s) → utf8 s ≡ true
-unfolding plain utf8 utf8From leads follows
-plain-utf8 [] t = refl
-plain-utf8 (b ∷ s) t =
-    let h = ltb-true b 128 (holds _ (both-left (ltb b 128) (plain s) t)) in
-    rw (leb·zero b, le-leb b 127 (omega arith)) (plain-utf8 s (both-right (ltb b 128) (plain s) t))
 
 -- ---- strings put together
 
