@@ -1,15 +1,12 @@
 -- A raise and a clear are their steps, given what a search for their key found.
-use mathlib.Core.Path.{_≡_, ap, _∙_, subst}
+use mathlib.Core.Path.{_≡_}
 use mathlib.Core.Option.{Option}
-use lib.Dec.{T}
-use Prim.Native.Nat.{ℕ}
 use Rattle.octets.specs.Bytes.{Bytes}
 use Rattle.definition.specs.Value.{RaiseValue, ClearValue}
 use Rattle.definition.specs.Key.{keyOf}
 use Rattle.definition.specs.Chain.{Entry, first}
 use Rattle.definition.specs.Alarm.{Alarm, hasKey}
-use Rattle.definition.specs.Station.{Step, _>>=_}
-use Rattle.definition.specs.Answer.{Answer}
+use Rattle.definition.specs.Station.{_>>=_}
 use Rattle.definition.specs.Steps.{raiseAt, raise, clearAt, clear}
 use Rattle.definition.specs.Sound.{station}
 use Rattle.reply.specs.declared.Reply.{Reply}

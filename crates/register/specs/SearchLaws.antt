@@ -20,7 +20,6 @@ use Rattle.definition.specs.Laws.Book.ChangedChain.{total-on}
 use Rattle.definition.specs.Laws.Book.Occurrences.{times-cons, times-hit, times-miss}
 use Rattle.definition.specs.Contracts.Moves.{prevOf, CanRelease}
 use Rattle.definition.specs.Contracts.LegalBook.{SoundBook, chain}
-use Rattle.register.specs.declared.Found.{Found}
 use Rattle.register.specs.declared.Found.the-variants.{At, Nowhere}
 use Rattle.register.specs.Search.{Used, firstIn, firstActive, holdsKey, holdsId, placeOf}
 use Rattle.register.specs.Walk.{Progress}

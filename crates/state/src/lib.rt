@@ -5,7 +5,7 @@
 // (crates/admin) ends in it too. `clear_at` is the definition's `clearAt`: it is given what a search for the key found, and the search is the
 // caller's. Next: specs/ActLaws.antt and specs/ClearLaws.antt, the steps as the code's moves make them.
 ghost use mathlib.Core.Path.{_≡_};
-ghost use Prim.Native.Nat.{_+_, _≤_};
+ghost use Prim.Native.Nat.{_≤_};
 ghost use lib.Dec.{T};
 ghost use lib.ListN.{length};
 ghost use Rattle.definition.specs.Limits.{shortLimit};

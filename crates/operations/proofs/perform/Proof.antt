@@ -1,6 +1,5 @@
 -- `perform`: no room, 30; else the dispatch.
-use mathlib.Core.Path.{_≡_, sym, _∙_}
-use native.Mathlib.Omega.{arith}
+use mathlib.Core.Path.{sym, _∙_}
 use borrow.Author.Needs.{needs}
 use denote.Ref.{now}
 use Rattle.call.specs.Meaning.{meaning}

@@ -1,5 +1,5 @@
 -- `clear_at`: an alarm that was found is cleared; else there is none to clear.
-use mathlib.Core.Path.{_≡_, sym, subst}
+use mathlib.Core.Path.{_≡_, subst}
 use borrow.Author.Needs.{needs}
 use denote.Ref.{now}
 use Rattle.raise_fields.specs.Meaning.{clearValue}

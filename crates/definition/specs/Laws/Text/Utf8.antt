@@ -5,8 +5,8 @@ use mathlib.Core.Bool.{Bool, true, false, cond, _&&_, _||_}
 use mathlib.Core.List.{List, [], _∷_, _++_, List·Memᴰ, List·Memᴰ·head, List·Memᴰ·tail, List·Memᴰ·not-nil, List·Memᴰ·cases-cons}
 use Prim.Native.Nat.{ℕ, _<_}
 use native.Mathlib.Omega.{arith}
-use borrow.Author.Tests.{le-leb, lt-leb, ltb-true}
-use lib.Dec.{T, leb, leb→le, ltb, leb·zero}
+use borrow.Author.Tests.{lt-leb, ltb-true}
+use lib.Dec.{T, leb, leb→le, ltb}
 use Rattle.octets.specs.Bytes.{Bytes}
 use Rattle.octets.specs.BoolLaws.{and-false, holds, true-holds, both-left, both-right}
 use Rattle.definition.specs.Utf8.{Range, Row, inside, rows, leads, follows, utf8From, utf8}
