@@ -94,7 +94,14 @@ fn sweep(register: &mut [u8], ends: Ends, cutoff: u64) -> u32
 
 pub fn expire(register: &mut [u8], ends: Ends, cutoff: u64, answer: &mut [u8]) -> usize
     requires { ⌜ Newest (now register) (ends .history) × (1552 ≤ length (now answer)) ⌝ }
-    ensures { λ r. ⌜ Answers (expiring cutoff) (now (register .entry)) (now (register .exit)) (now (answer .entry)) (now (answer .exit)) r ⌝ }
+    ensures { λ r.
+        ⌜ Answers
+        (expiring cutoff)
+        (now (register .entry))
+        (now (register .exit))
+        (now (answer .entry))
+        (now (answer .exit))
+        r ⌝ }
 {
     let n = sweep(register, ends, cutoff);
     answers::put_number(answer, n as u64)

@@ -62,6 +62,10 @@ entryBytes n = n .severity ∷ (be32 (n .amount) ++ string (n .cause))
 abbrev pub entryAt : Bytes → Rating → ℕ → Bytes
 entryAt b q m = cond (eqb m 0) (entryBytes (countOf (ratings b) q)) []
 
+-- that of record i's alarm
+abbrev pub entryOf : Bytes → ℕ → ℕ → Bytes
+entryOf b i mark = entryAt b (ratingAt b i) mark
+
 -- its length
 abbrev pub sizeAt : Rating → ℕ → ℕ
 sizeAt q m = cond (eqb m 0) (9 + length (q .1)) 0

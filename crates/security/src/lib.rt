@@ -1,7 +1,8 @@
 // Alarms that are suppressed only where a policy allows it explicitly: critical ones, and those of nine causes.
 //
 // The definition lists the causes (`guarded` in specs/Alarm.antt) and says which alarms are meant (`isCritical`). The
-// code has the names once more, as bytes, and is proved to find just these. Crate `admin` asks before it suppresses.
+// code has the names once more, as bytes, and is proved to find just these. Crate `admin` asks before it suppresses. The
+// payload's fields are read by `record`; nothing of the text or of the details is looked at.
 ghost use mathlib.Core.Path.{_≡_};
 ghost use lib.ListN.{length};
 ghost use Rattle.definition.specs.Alarm.{guarded, isCritical};

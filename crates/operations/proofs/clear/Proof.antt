@@ -1,7 +1,6 @@
 -- `clear`: the step, given what the search for the key found.
 use borrow.Author.Needs.{needs}
 use Rattle.definition.specs.Alarm.{hasKey}
-use Rattle.definition.specs.Laws.Steps.SoundStation.{sound-holds}
 use Rattle.history.specs.SoughtLaws.{sought}
 use Rattle.reply.specs.declared.Reply.the-variants.{Answered}
 use Rattle.operations.specs.SearchLaws.{clear-sought}
@@ -9,7 +8,7 @@ use Rattle.operations.proofs.clear.Statement.{statement}
 use Rattle.operations.proofs.clear.Tie as tie
 
 find-key-requires : tie.Need-find-key-requires
-find-key-requires c κs = sound-holds _ (c .before .before .before .before .before .before .before .pre .newest .whole) .book
+find-key-requires c κs = c .before .before .before .before .before .before .before .pre .newest .whole
 
 clear-at-requires : tie.Need-clear-at-requires
 clear-at-requires c κs =

@@ -1,14 +1,13 @@
 -- `raise`: the step, given what the search for the key found.
 use borrow.Author.Needs.{needs}
 use Rattle.definition.specs.Alarm.{hasKey}
-use Rattle.definition.specs.Laws.Steps.SoundStation.{sound-holds}
 use Rattle.history.specs.SoughtLaws.{sought}
 use Rattle.operations.specs.SearchLaws.{raise-sought}
 use Rattle.operations.proofs.raise.Statement.{statement}
 use Rattle.operations.proofs.raise.Tie as tie
 
 find-key-requires : tie.Need-find-key-requires
-find-key-requires c κs = sound-holds _ (c .before .before .before .before .before .before .before .pre .standing .whole) .book
+find-key-requires c κs = c .before .before .before .before .before .before .before .pre .standing .whole
 
 raise-at-requires : tie.Need-raise-at-requires
 raise-at-requires c κs =
