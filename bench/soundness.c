@@ -2,7 +2,7 @@
    alarm_step with an empty call is the check's own.
 
    Four registers of each size: all records free; full of typical alarms whose strings have the same lengths in all records (alike); full
-   of alarms whose strings vary by a quarter around these lengths (varied), which a processor foresees less well; and those again with two
+   of alarms whose strings vary by a quarter around these lengths (varied), which a processor predicts less well; and those again with two
    letters in each text that are not ASCII (accented). Printed are nanoseconds per record (the least and the median of many runs) and bytes
    per second (of the least), and beside them those of a bare read of the same bytes.
 

@@ -1,6 +1,6 @@
 // A string's room is the bytes that its slot reserves for it: the string, and what stands behind it. Both are tested
 // in one loop whose number of turns is the room's and not the string's, so that LLVM takes many bytes at a time and
-// the processor foresees each turn.
+// the processor predicts each turn.
 //
 // For that a ruler is laid along the room: 512 bytes of the highest bit alone, the width of the widest room, and then
 // 512 bytes of ones. The former end where the string ends: `and` with the ruler leaves the highest bits of the string,
