@@ -46,7 +46,13 @@ pub fn put_record(answer: &mut [u8], at: usize, payload: &[u8]) -> usize
 // How many active alarms have a severity and a cause, as operation 10 lists it.
 pub fn put_count(answer: &mut [u8], at: usize, severity: u8, amount: u32, cause: &[u8]) -> usize
     requires { ⌜ (at + (9 + length (now cause)) ≤ length (now answer)) × (length (now cause) < 4294967296) ⌝ }
-    ensures { λ r. ⌜ Put (now (answer .entry)) at (entry severity amount (now (cause .entry))) r (now (answer .exit)) ⌝ }
+    ensures { λ r.
+        ⌜ Put
+        (now (answer .entry))
+        at
+        (entry severity amount (now (cause .entry)))
+        r
+        (now (answer .exit)) ⌝ }
 {
     octets::put_byte(answer, at, severity);
     let n = at + 1;
@@ -60,7 +66,13 @@ pub fn put_count(answer: &mut [u8], at: usize, severity: u8, amount: u32, cause:
 // An alarm: codes 1, 2, 6 and 7.
 pub fn put_alarm(answer: &mut [u8], code: u8, payload: &[u8]) -> usize
     requires { ⌜ (1552 ≤ length (now answer)) × (length (now payload) ≡ payloadWidth) ⌝ }
-    ensures { λ r. ⌜ Answered (now (answer .entry)) (head code 1 0) (be32 0 ++ now (payload .entry)) r (now (answer .exit)) ⌝ }
+    ensures { λ r.
+        ⌜ Answered
+        (now (answer .entry))
+        (head code 1 0)
+        (be32 0 ++ now (payload .entry))
+        r
+        (now (answer .exit)) ⌝ }
 {
     let n = put_head(answer, code, 1, 0);
     put_record(answer, n, payload)
@@ -88,7 +100,13 @@ pub fn put_number(answer: &mut [u8], n: u64) -> usize
 // A head, and the key's digits.
 fn put_key(answer: &mut [u8], code: u8, number: u64, key: &[u8]) -> usize
     requires { ⌜ (48 ≤ length (now answer)) × (length (now key) ≡ 16) ⌝ }
-    ensures { λ r. ⌜ Answered (now (answer .entry)) (head code 0 number) (hex (now (key .entry))) r (now (answer .exit)) ⌝ }
+    ensures { λ r.
+        ⌜ Answered
+        (now (answer .entry))
+        (head code 0 number)
+        (hex (now (key .entry)))
+        r
+        (now (answer .exit)) ⌝ }
 {
     let n = put_head(answer, code, 0, number);
     key::put_hex(answer, n, key);
@@ -99,7 +117,12 @@ fn put_key(answer: &mut [u8], code: u8, number: u64, key: &[u8]) -> usize
 pub fn put_without(answer: &mut [u8], key: &[u8], call: &[u8], cause: CauseSpan) -> usize
     requires { ⌜ (148 ≤ length (now answer)) × (length (now key) ≡ 16) × causeWithin (now call) cause ⌝ }
     ensures { λ r.
-        ⌜ Put (now (answer .entry)) 0 (answerBytes (ClearWithoutActive (now (key .entry)) (causePart (now (call .entry)) cause))) r (now (answer .exit)) ⌝ }
+        ⌜ Put
+        (now (answer .entry))
+        0
+        (answerBytes (ClearWithoutActive (now (key .entry)) (causePart (now (call .entry)) cause)))
+        r
+        (now (answer .exit)) ⌝ }
 {
     let n = put_key(answer, 4, 0, key);
     strings::put_cause(answer, n, call, cause)
@@ -108,7 +131,13 @@ pub fn put_without(answer: &mut [u8], key: &[u8], call: &[u8], cause: CauseSpan)
 // A raise that found the active chain full: its key, and the limit of that chain.
 pub fn put_limit(answer: &mut [u8], key: &[u8], n: u64) -> usize
     requires { ⌜ (48 ≤ length (now answer)) × (length (now key) ≡ 16) ⌝ }
-    ensures { λ r. ⌜ Put (now (answer .entry)) 0 (answerBytes (ActiveLimitExceeded (now (key .entry)) n)) r (now (answer .exit)) ⌝ }
+    ensures { λ r.
+        ⌜ Put
+        (now (answer .entry))
+        0
+        (answerBytes (ActiveLimitExceeded (now (key .entry)) n))
+        r
+        (now (answer .exit)) ⌝ }
 {
     put_key(answer, 5, n, key)
 }
@@ -128,7 +157,9 @@ pub fn put_summary(
         ⌜ Put
         (now (answer .entry))
         0
-        (answerBytes (Summary (record { active = active; worst = worst; readiness = readiness; successes = successes; failures = failures })))
+        (answerBytes
+        (Summary
+        (record { active = active; worst = worst; readiness = readiness; successes = successes; failures = failures })))
         r
         (now (answer .exit)) ⌝ }
 {

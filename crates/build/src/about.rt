@@ -49,7 +49,9 @@ fn single_into(p: &mut [u8], call: &[u8], kind: u8, a: Span)
 
 // A session store, with its shard.
 fn store_into(p: &mut [u8], call: &[u8], a: Span, shard: OptSpan)
-    requires { ⌜ (length (now p) ≡ payloadWidth) × within (now call) shortLimit a × optWithin (now call) shortLimit shard ⌝ }
+    requires { ⌜ (length (now p) ≡ payloadWidth)
+        × within (now call) shortLimit a
+        × optWithin (now call) shortLimit shard ⌝ }
     ensures { λ _. ⌜ now (p .exit) ≡ splice (now (p .entry)) 273 (storeOf (now (call .entry)) a shard) ⌝ }
 {
     slots::marked_into(p, AlarmAt::OBJECT, Record::SHORT, 4, call, a);
@@ -59,7 +61,9 @@ fn store_into(p: &mut [u8], call: &[u8], a: Span, shard: OptSpan)
 
 pub(crate) fn object_into(p: &mut [u8], call: &[u8], o: AffectedObject)
     requires { ⌜ (length (now p) ≡ payloadWidth) × objectWithin (now call) o ⌝ }
-    ensures { λ _. ⌜ now (p .exit) ≡ splice (now (p .entry)) 273 (objectSlot .put (objectValue (now (call .entry)) o)) ⌝ }
+    ensures { λ _.
+        ⌜ now (p .exit)
+        ≡ splice (now (p .entry)) 273 (objectSlot .put (objectValue (now (call .entry)) o)) ⌝ }
 {
     match o {
         AffectedObject::NfInstance { kind, instance } => pair_into(p, call, 1, kind, instance, 0),

@@ -192,7 +192,11 @@ fn operation_at(call: &[u8], at: Cursor, op: u8) -> CallRead
 // A call whose fields were read: nothing may come after them.
 fn finished(call: &[u8], at: Cursor, p: Parsed) -> Parsed
     requires { ⌜ parsedWithin (now call) p ⌝ }
-    ensures { λ r. ⌜ Means (now (call .entry)) r (whole (outAt (now (call .entry)) (meaning (now (call .entry)) p) at)) ⌝ }
+    ensures { λ r.
+        ⌜ Means
+        (now (call .entry))
+        r
+        (whole (outAt (now (call .entry)) (meaning (now (call .entry)) p) at)) ⌝ }
 {
     match at {
         Cursor::Fault(k) => Parsed::Refused(k),

@@ -106,7 +106,9 @@ pub struct News {
 
 pub fn updated_by(p: &mut [u8], call: &[u8], news: News)
     requires { ⌜ IsAlarm lastActive (now p) × NewsWithin (now call) news ⌝ }
-    ensures { λ _. ⌜ now (p .exit) ≡ alarmBytes (updatedWith (newsOf (now (call .entry)) news) (readAlarm (now (p .entry)))) ⌝ }
+    ensures { λ _.
+        ⌜ now (p .exit)
+        ≡ alarmBytes (updatedWith (newsOf (now (call .entry)) news) (readAlarm (now (p .entry)))) ⌝ }
 {
     let t = time::late(news.time, record::raised_at(p));
     let s = updated_state(record::state(p));

@@ -29,7 +29,12 @@ fn is_due(register: &[u8], i: u32, cutoff: u64) -> bool
 // Active record i, which follows `previous`, expires. Gives history's newest record.
 fn expire_at(register: &mut [u8], i: u32, previous: u32, ends: Ends, cutoff: u64) -> u32
     requires { ⌜ Newest (now register) (ends .history) × CanRelease (now register) 0 i previous ⌝ }
-    ensures { λ r. ⌜ Files (retired i (expiredBy cutoff (alarmAt (now (register .entry)) i))) (now (register .entry)) (now (register .exit)) r ⌝ }
+    ensures { λ r.
+        ⌜ Files
+        (retired i (expiredBy cutoff (alarmAt (now (register .entry)) i)))
+        (now (register .entry))
+        (now (register .exit))
+        r ⌝ }
 {
     let mut p = [0u8; Record::PAYLOAD];
     state::load(&mut p, register, i);
@@ -46,7 +51,9 @@ struct Stand {
 
 // Record `at` expires if it is due, and is kept if not.
 fn pass(register: &mut [u8], at: u32, s: Stand, cutoff: u64) -> Stand
-    requires { ⌜ Newest (now register) (s .ends .history) × CanRelease (now register) 0 at (s .kept) × (s .expired < 4294967295) ⌝ }
+    requires { ⌜ Newest (now register) (s .ends .history)
+        × CanRelease (now register) 0 at (s .kept)
+        × (s .expired < 4294967295) ⌝ }
     ensures { λ r. ⌜ Passes cutoff (now (register .entry)) (now (register .exit)) at s r ⌝ }
 {
     let ends = s.ends;

@@ -84,7 +84,13 @@ fn put_queue(buf: &mut [u8], at: usize, q: u16) -> usize
 // A kind's tag and its one string.
 fn put_single(buf: &mut [u8], at: usize, tag: &[u8], call: &[u8], a: Span) -> usize
     requires { ⌜ Room (now buf) at objectRoom × (length (now tag) ≤ 14) × within (now call) shortLimit a ⌝ }
-    ensures { λ r. ⌜ Put (now (buf .entry)) at (taggedOne (now (call .entry)) (now (tag .entry)) a) r (now (buf .exit)) ⌝ }
+    ensures { λ r.
+        ⌜ Put
+        (now (buf .entry))
+        at
+        (taggedOne (now (call .entry)) (now (tag .entry)) a)
+        r
+        (now (buf .exit)) ⌝ }
 {
     let n = strings::put_string(buf, at, tag);
     put_part(buf, n, call, a)
@@ -92,8 +98,16 @@ fn put_single(buf: &mut [u8], at: usize, tag: &[u8], call: &[u8], a: Span) -> us
 
 // A kind's tag and its two strings.
 fn put_pair(buf: &mut [u8], at: usize, tag: &[u8], call: &[u8], a: Span, b: Span) -> usize
-    requires { ⌜ Room (now buf) at objectRoom × (length (now tag) ≤ 14) × (within (now call) shortLimit a × within (now call) shortLimit b) ⌝ }
-    ensures { λ r. ⌜ Put (now (buf .entry)) at (taggedTwo (now (call .entry)) (now (tag .entry)) a b) r (now (buf .exit)) ⌝ }
+    requires { ⌜ Room (now buf) at objectRoom
+        × (length (now tag) ≤ 14)
+        × (within (now call) shortLimit a × within (now call) shortLimit b) ⌝ }
+    ensures { λ r.
+        ⌜ Put
+        (now (buf .entry))
+        at
+        (taggedTwo (now (call .entry)) (now (tag .entry)) a b)
+        r
+        (now (buf .exit)) ⌝ }
 {
     let n = put_single(buf, at, tag, call, a);
     put_part(buf, n, call, b)
@@ -102,7 +116,14 @@ fn put_pair(buf: &mut [u8], at: usize, tag: &[u8], call: &[u8], a: Span, b: Span
 // Kind 4: behind its string the optional shard.
 fn put_session_store(buf: &mut [u8], at: usize, call: &[u8], nf: Span, shard: OptSpan) -> usize
     requires { ⌜ Room (now buf) at objectRoom × objectWithin (now call) (AffectedObject.SessionStore nf shard) ⌝ }
-    ensures { λ r. ⌜ PutObject (now (buf .entry)) at (now (call .entry)) (AffectedObject.SessionStore nf shard) r (now (buf .exit)) ⌝ }
+    ensures { λ r.
+        ⌜ PutObject
+        (now (buf .entry))
+        at
+        (now (call .entry))
+        (AffectedObject.SessionStore nf shard)
+        r
+        (now (buf .exit)) ⌝ }
 {
     let n = put_single(buf, at, b"SessionStore", call, nf);
     put_option(buf, n, call, shard)
@@ -117,8 +138,16 @@ fn put_data_plane_queue(
     interface: Span,
     queue: u16,
 ) -> usize
-    requires { ⌜ Room (now buf) at objectRoom × objectWithin (now call) (AffectedObject.DataPlaneQueue nf interface queue) ⌝ }
-    ensures { λ r. ⌜ PutObject (now (buf .entry)) at (now (call .entry)) (AffectedObject.DataPlaneQueue nf interface queue) r (now (buf .exit)) ⌝ }
+    requires { ⌜ Room (now buf) at objectRoom
+        × objectWithin (now call) (AffectedObject.DataPlaneQueue nf interface queue) ⌝ }
+    ensures { λ r.
+        ⌜ PutObject
+        (now (buf .entry))
+        at
+        (now (call .entry))
+        (AffectedObject.DataPlaneQueue nf interface queue)
+        r
+        (now (buf .exit)) ⌝ }
 {
     let n = put_pair(buf, at, b"DataPlaneQueue", call, nf, interface);
     put_queue(buf, n, queue)
@@ -169,8 +198,16 @@ fn put_places(buf: &mut [u8], at: usize, call: &[u8], p: Places) -> usize
 
 // All that is hashed goes to the beginning of the buffer.
 fn feed(buf: &mut [u8], call: &[u8], alarm_type: Span, k: KeyFields) -> usize
-    requires { ⌜ (length (now buf) ≡ hashedWidth) × within (now call) shortLimit «alarm_type» × KeyWithin (now call) k ⌝ }
-    ensures { λ r. ⌜ Put (now (buf .entry)) 0 (fed (part (now (call .entry)) «alarm_type») (keyValue (now (call .entry)) k)) r (now (buf .exit)) ⌝ }
+    requires { ⌜ (length (now buf) ≡ hashedWidth)
+        × within (now call) shortLimit «alarm_type»
+        × KeyWithin (now call) k ⌝ }
+    ensures { λ r.
+        ⌜ Put
+        (now (buf .entry))
+        0
+        (fed (part (now (call .entry)) «alarm_type») (keyValue (now (call .entry)) k))
+        r
+        (now (buf .exit)) ⌝ }
 {
     let cause = k.cause;
     let object = k.object;

@@ -92,7 +92,15 @@ fn is_named(region: OptSpan) -> bool
 // The text and the details, after the key.
 fn body_at(call: &[u8], at: Cursor, head: RaiseHead, key: KeyFields) -> RaiseRead
     requires { ⌜ HeadWithin (now call) head × KeyWithin (now call) key ⌝ }
-    ensures { λ r. ⌜ Says (now (call .entry)) at (bodyBehind (now (call .entry)) head key) raiseValue RaiseWithin (r .raise) (r .next) ⌝ }
+    ensures { λ r.
+        ⌜ Says
+        (now (call .entry))
+        at
+        (bodyBehind (now (call .entry)) head key)
+        raiseValue
+        RaiseWithin
+        (r .raise)
+        (r .next) ⌝ }
 {
     let text = fields::text_at(call, at, Record::TEXT);
     let at = text.next;

@@ -67,7 +67,9 @@ fn update(
 // Whether an active alarm has the id.
 fn is_active(register: &[u8], call: &[u8], id: Span) -> bool
     requires { ⌜ T (sound (now register)) × within (now call) shortLimit id ⌝ }
-    ensures { λ y. ⌜ y ≡ present (first (hasId (part (now (call .entry)) id)) (station (now (register .entry)) .active)) ⌝ }
+    ensures { λ y.
+        ⌜ y
+        ≡ present (first (hasId (part (now (call .entry)) id)) (station (now (register .entry)) .active)) ⌝ }
 {
     match register::find_id(register, model::part(call, id)) {
         Found::At(_, _) => true,
@@ -84,7 +86,9 @@ fn insert(
     key: &[u8],
     answer: &mut [u8],
 ) -> Reply
-    requires { ⌜ Ready (now register) ends (now call) r (now answer) × ActiveRoom (now register) (ends .active) × (length (now key) ≡ 16) ⌝ }
+    requires { ⌜ Ready (now register) ends (now call) r (now answer)
+        × ActiveRoom (now register) (ends .active)
+        × (length (now key) ≡ 16) ⌝ }
     ensures { λ y.
         ⌜ Replies
         y
@@ -139,7 +143,9 @@ pub fn raise_at(
     found: Found,
     answer: &mut [u8],
 ) -> Reply
-    requires { ⌜ Ready (now register) ends (now call) r (now answer) × (length (now key) ≡ 16) × Sits (now register) found ⌝ }
+    requires { ⌜ Ready (now register) ends (now call) r (now answer)
+        × (length (now key) ≡ 16)
+        × Sits (now register) found ⌝ }
     ensures { λ y.
         ⌜ Replies
         y

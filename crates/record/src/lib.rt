@@ -161,7 +161,10 @@ pub fn has_some(p: &[u8], at: usize, n: usize, s: &[u8]) -> bool
 
 // Whether two sound alarms are the same to history.
 pub fn same_alarm(p: &[u8], q: &[u8]) -> bool
-    requires { ⌜ (length (now p) ≡ payloadWidth) × (length (now q) ≡ payloadWidth) × T (soundAlarm lastState (now p)) × T (soundAlarm lastState (now q)) ⌝ }
+    requires { ⌜ (length (now p) ≡ payloadWidth)
+        × (length (now q) ≡ payloadWidth)
+        × T (soundAlarm lastState (now p))
+        × T (soundAlarm lastState (now q)) ⌝ }
     ensures { λ r. ⌜ r ≡ sameIdentity (readAlarm (now (p .entry))) (readAlarm (now (q .entry))) ⌝ }
 {
     octets::equal(
@@ -230,14 +233,26 @@ pub fn set_cleared(p: &mut [u8], t: u64)
 
 pub fn set_text(p: &mut [u8], s: &[u8])
     requires { ⌜ (length (now p) ≡ payloadWidth) × (length (now s) ≤ textLimit) ⌝ }
-    ensures { λ _. ⌜ Becomes (withText (now (s .entry))) 674 (stringBytes textLimit (now (s .entry))) (now (p .entry)) (now (p .exit)) ⌝ }
+    ensures { λ _.
+        ⌜ Becomes
+        (withText (now (s .entry)))
+        674
+        (stringBytes textLimit (now (s .entry)))
+        (now (p .entry))
+        (now (p .exit)) ⌝ }
 {
     put_string(p, AlarmAt::TEXT, Record::TEXT, s);
 }
 
 pub fn set_details(p: &mut [u8], s: &[u8])
     requires { ⌜ (length (now p) ≡ payloadWidth) × (length (now s) ≤ detailsLimit) ⌝ }
-    ensures { λ _. ⌜ Becomes (withDetails (some (now (s .entry)))) 932 (1 ∷ stringBytes detailsLimit (now (s .entry))) (now (p .entry)) (now (p .exit)) ⌝ }
+    ensures { λ _.
+        ⌜ Becomes
+        (withDetails (some (now (s .entry))))
+        932
+        (1 ∷ stringBytes detailsLimit (now (s .entry)))
+        (now (p .entry))
+        (now (p .exit)) ⌝ }
 {
     put_marked(p, AlarmAt::DETAILS, Record::DETAILS, 1, s);
 }

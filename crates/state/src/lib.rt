@@ -35,7 +35,9 @@ use register::Found;
 // Active record i's payload, copied.
 pub fn load(p: &mut [u8], register: &[u8], i: u32)
     requires { ⌜ (length (now p) ≡ payloadWidth) × T (sound (now register)) × OnActive (now register) i ⌝ }
-    ensures { λ _. ⌜ (now (p .exit) ≡ recordOf (now (register .entry)) i .content) × IsAlarm lastActive (now (p .exit)) ⌝ }
+    ensures { λ _.
+        ⌜ (now (p .exit) ≡ recordOf (now (register .entry)) i .content)
+        × IsAlarm lastActive (now (p .exit)) ⌝ }
 {
     octets::put_bytes(p, 0, register::payload(register, i));
 }
@@ -79,7 +81,13 @@ pub fn act(
 
 fn not_authorized(answer: &mut [u8], action: Action) -> usize
     requires { ⌜ 1552 ≤ length (now answer) ⌝ }
-    ensures { λ r. ⌜ Put (now (answer .entry)) 0 (answerBytes (Unauthorized (S.notAuthorized (actionOf action)))) r (now (answer .exit)) ⌝ }
+    ensures { λ r.
+        ⌜ Put
+        (now (answer .entry))
+        0
+        (answerBytes (Unauthorized (S.notAuthorized (actionOf action))))
+        r
+        (now (answer .exit)) ⌝ }
 {
     match action {
         Action::Acknowledge => answers::put_text(answer, 8, b"acknowledge not authorized"),
@@ -96,7 +104,9 @@ fn plain_on(
     action: Action,
     answer: &mut [u8],
 ) -> usize
-    requires { ⌜ Newest (now register) (ends .history) × (length (now id) ≤ shortLimit) × (1552 ≤ length (now answer)) ⌝ }
+    requires { ⌜ Newest (now register) (ends .history)
+        × (length (now id) ≤ shortLimit)
+        × (1552 ≤ length (now answer)) ⌝ }
     ensures { λ r.
         ⌜ Authorised
         (actionOf action)
@@ -122,7 +132,9 @@ pub fn plain(
     action: Action,
     answer: &mut [u8],
 ) -> usize
-    requires { ⌜ Newest (now register) (ends .history) × within (now call) shortLimit (p .id) × (1552 ≤ length (now answer)) ⌝ }
+    requires { ⌜ Newest (now register) (ends .history)
+        × within (now call) shortLimit (p .id)
+        × (1552 ≤ length (now answer)) ⌝ }
     ensures { λ r.
         ⌜ Answers
         (S.plain (actionOf action) (plainValue (now (call .entry)) p))
@@ -157,7 +169,9 @@ fn clear_found(
     time: u64,
     answer: &mut [u8],
 ) -> usize
-    requires { ⌜ Newest (now register) (ends .history) × CanRelease (now register) 0 i previous × (1552 ≤ length (now answer)) ⌝ }
+    requires { ⌜ Newest (now register) (ends .history)
+        × CanRelease (now register) 0 i previous
+        × (1552 ≤ length (now answer)) ⌝ }
     ensures { λ r.
         ⌜ Answers
         (clearedAt time (entry i (alarmAt (now (register .entry)) i)))
@@ -184,7 +198,9 @@ pub fn clear_at(
     found: Found,
     answer: &mut [u8],
 ) -> usize
-    requires { ⌜ Clearing (now register) ends (now call) c (now answer) × (length (now key) ≡ 16) × Sits (now register) found ⌝ }
+    requires { ⌜ Clearing (now register) ends (now call) c (now answer)
+        × (length (now key) ≡ 16)
+        × Sits (now register) found ⌝ }
     ensures { λ r.
         ⌜ Answers
         (S.clearAt (clearValue (now (call .entry)) c) (now (key .entry)) (foundOf (now (register .entry)) found))

@@ -65,10 +65,18 @@ pub extern "C" fn alarm_step(
     length: &mut u64,
 ) -> u32
     ensures { λ r. ⌜ r ≡ stepOf (now (register .entry)) (now (call .entry)) (lengthOf (now (answer .entry))) .number ⌝ }
-    ensures { λ _. ⌜ now (length .exit) ≡ stepOf (now (register .entry)) (now (call .entry)) (lengthOf (now (answer .entry))) .length ⌝ }
     ensures { λ _.
-        ⌜ now (answer .exit) ≡ splice (now (answer .entry)) 0 (stepOf (now (register .entry)) (now (call .entry)) (lengthOf (now (answer .entry))) .answer) ⌝ }
-    ensures { λ _. ⌜ now (register .exit) ≡ stepOf (now (register .entry)) (now (call .entry)) (lengthOf (now (answer .entry))) .register ⌝ }
+        ⌜ now (length .exit)
+        ≡ stepOf (now (register .entry)) (now (call .entry)) (lengthOf (now (answer .entry))) .length ⌝ }
+    ensures { λ _.
+        ⌜ now (answer .exit)
+        ≡ splice
+        (now (answer .entry))
+        0
+        (stepOf (now (register .entry)) (now (call .entry)) (lengthOf (now (answer .entry))) .answer) ⌝ }
+    ensures { λ _.
+        ⌜ now (register .exit)
+        ≡ stepOf (now (register .entry)) (now (call .entry)) (lengthOf (now (answer .entry))) .register ⌝ }
 {
     reply::tell(step(register, call, answer), length)
 }
