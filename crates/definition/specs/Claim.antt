@@ -4,17 +4,26 @@ use mathlib.Core.Path.{_≡_}
 use mathlib.Core.List.{List, [], _∷_, map}
 use lib.ListN.{length, take, getD}
 use Rattle.octets.specs.Bytes.{Bytes, Octets, splice}
-use Rattle.definition.specs.Opening.{opened, openOf}
+use Rattle.definition.specs.Station.{fresh}
+use Rattle.definition.specs.Opening.{openOf}
+use Rattle.definition.specs.Sound.{encode}
 use Rattle.definition.specs.Lists.{Reply, stepOf, run}
 use Rattle.definition.specs.Mask.{maskRegister, maskAnswer}
 use Rattle.definition.specs.Twins.{AtEach, TwinLists}
 
--- ---- what was returned and left
+-- ---- what was returned and left: the promises of the entry points, word for word
+
+-- an opening with the limits a, h and e on a slice: "every other call returns 0 and the answer's length, opening 0 and 0"
+pub record OpenReturns (a h e : ℕ) (slice : Bytes) (number n : ℕ) (b : Bytes) : Type 0 where
+  pub number-is : number ≡ openOf a h e slice .number
+  pub length-is : n ≡ 0
+  pub register-is : b ≡ openOf a h e slice .register
 
 -- "Fresh means as an opening that returned 0 left it": b, with the limits a, h and e
 pub record Fresh (a h e : ℕ) (b : Bytes) : Type 0 where
   pub slice : Bytes
-  pub opening : openOf a h e slice ≡ opened 0 b
+  pub length : ℕ
+  pub opening : OpenReturns a h e slice 0 length b
 
 -- number, length, answer slice and register are those of a reply: the slice was o and is o′, and "bytes past the answer are unchanged"; on
 -- a refusal all are
@@ -25,8 +34,8 @@ pub record Gives (r : Reply) (o : Bytes) (number n : ℕ) (o′ b′ : Bytes) : 
   pub register-is : b′ ≡ r .register
 
 -- a call c on the register b and the answer slice o
-abbrev pub Stepped : Bytes → Bytes → Bytes → ℕ → ℕ → Bytes → Bytes → Type 0
-Stepped b c o = Gives (stepOf b c (length o)) o
+abbrev pub StepReturns : Bytes → Bytes → Bytes → ℕ → ℕ → Bytes → Bytes → Type 0
+StepReturns b c o = Gives (stepOf b c (length o)) o
 
 -- a call as it was made: its bytes and the answer slice's former ones; number and length that it returned, answer slice and register
 -- that it left
@@ -41,7 +50,7 @@ pub record Made : Type 0 where
 -- calls one after the other, the first on the register b, each other on what the one before left
 abbrev pub Trace : Bytes → List Made → Type 0
 Trace b [] = Unit {0}
-Trace b (m ∷ l) = Stepped b (m .call) (m .former) (m .number) (m .length) (m .answer) (m .register) × Trace (m .register) l
+Trace b (m ∷ l) = StepReturns b (m .call) (m .former) (m .number) (m .length) (m .answer) (m .register) × Trace (m .register) l
 
 -- "A list fixes each call's bytes and answer length; the answer slice's former bytes are free."
 abbrev pub asked : Made → Bytes × ℕ
@@ -73,8 +82,9 @@ AllOctets (m ∷ l) = Octets (m .call) × AllOctets l
 -- ---- the claim
 
 pub record Claim : Type 0 where
-  -- every list of calls on a fresh register gives at every place what the definition gives
-  pub replied : (a h e : ℕ) (b : Bytes) (l : List Made) → Fresh a h e b → Trace b l → AtEach AsReplied l (run (map asked l) b)
+  -- every list of calls on a fresh register gives at every place what the definition gives from the limits and the list alone
+  pub replied :
+      (a h e : ℕ) (b : Bytes) (l : List Made) → Fresh a h e b → Trace b l → AtEach AsReplied l (run (map asked l) (encode (fresh a h e)))
   -- twins on fresh registers of the same limits give the same at every place, texts and details taken as zero
   pub twins :
       (a h e : ℕ) (b b′ : Bytes) (l l′ : List Made) → Fresh a h e b → Fresh a h e b′ → AllOctets l → AllOctets l′ → Trace b l → Trace b′ l′ →

@@ -2,14 +2,10 @@
 //
 // Each is thin: it checks the register (22 comes first, `onSound` in the definition), hands its bytes to a plain function of another crate and
 // tells the host what came of it (`reply::tell`). No entry point has a `requires`: number, length and every byte of every slice are fixed by equation
-// for every input. What is proved of whole lists of calls stands here too, in specs/Theorem.antt, on what these contracts say. A new entry point is
-// a crate of its own below this one, and a function here. Next: crates/operations, which does the calls.
-ghost use mathlib.Core.Path.{_≡_};
-ghost use lib.ListN.{length as lengthOf};
-ghost use Rattle.octets.specs.Bytes.{splice};
-ghost use Rattle.definition.specs.Opening.{openOf};
-ghost use Rattle.definition.specs.Lists.{stepOf};
-ghost use Rattle.definition.specs.Claim.{Stepped};
+// for every input, and these equations stand in the definition (Claim.antt), as what the claim on whole lists speaks of: specs/Theorem.antt has the
+// claim's proof, proofs/Promises.antt that the contracts here say just that. A new entry point is a crate of its own below this one, and a function here.
+// Next: crates/operations, which does the calls.
+ghost use Rattle.definition.specs.Claim.{OpenReturns, StepReturns};
 ghost use Rattle.reply.specs.Meaning.{numberIn, lengthIn};
 use model::Record;
 use register_check::Soundness;
@@ -18,7 +14,7 @@ use reply::Reply;
 // 22 comes first, before the call is read.
 fn step(register: &mut [u8], call: &[u8], answer: &mut [u8]) -> Reply
     ensures { λ y.
-        ⌜ Stepped
+        ⌜ StepReturns
         (now (register .entry))
         (now (call .entry))
         (now (answer .entry))
@@ -48,9 +44,8 @@ pub extern "C" fn alarm_open(
     audit: u32,
     length: &mut u64,
 ) -> u32
-    ensures { λ r. ⌜ r ≡ openOf active history audit (now (register .entry)) .number ⌝ }
-    ensures { λ _. ⌜ now (length .exit) ≡ 0 ⌝ }
-    ensures { λ _. ⌜ now (register .exit) ≡ openOf active history audit (now (register .entry)) .register ⌝ }
+    ensures { λ r.
+        ⌜ OpenReturns active history audit (now (register .entry)) r (now (length .exit)) (now (register .exit)) ⌝ }
 {
     *length = 0;
     Record::open(register, active, history, audit)
@@ -64,19 +59,15 @@ pub extern "C" fn alarm_step(
     answer: &mut [u8],
     length: &mut u64,
 ) -> u32
-    ensures { λ r. ⌜ r ≡ stepOf (now (register .entry)) (now (call .entry)) (lengthOf (now (answer .entry))) .number ⌝ }
-    ensures { λ _.
-        ⌜ now (length .exit)
-        ≡ stepOf (now (register .entry)) (now (call .entry)) (lengthOf (now (answer .entry))) .length ⌝ }
-    ensures { λ _.
-        ⌜ now (answer .exit)
-        ≡ splice
+    ensures { λ r.
+        ⌜ StepReturns
+        (now (register .entry))
+        (now (call .entry))
         (now (answer .entry))
-        0
-        (stepOf (now (register .entry)) (now (call .entry)) (lengthOf (now (answer .entry))) .answer) ⌝ }
-    ensures { λ _.
-        ⌜ now (register .exit)
-        ≡ stepOf (now (register .entry)) (now (call .entry)) (lengthOf (now (answer .entry))) .register ⌝ }
+        r
+        (now (length .exit))
+        (now (answer .exit))
+        (now (register .exit)) ⌝ }
 {
     reply::tell(step(register, call, answer), length)
 }

@@ -8,7 +8,7 @@ returns : tie.Need-returns
 returns c =
     let told = c .tell .ensures in
     let g = c .before .before .before .before .before .before .step .ensures in
-    (told .0 ∙ g .number-is, (told .1 ∙ g .length-is, (g .answer-is, g .register-is)))
+    record { number-is = told .0 ∙ g .number-is; length-is = told .1 ∙ g .length-is; answer-is = g .answer-is; register-is = g .register-is }
 
 pub alarm-step-spec : {M : Type 1} → statement M
 alarm-step-spec = tie.close (tie.spec (λ c κs. search needs) (λ c κs. search needs) (λ c. search needs) (λ c. search needs) returns)

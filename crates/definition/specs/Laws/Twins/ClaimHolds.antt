@@ -15,7 +15,7 @@ use Rattle.definition.specs.Station.{Station, Outcome, done, stopped, fr
 use Rattle.definition.specs.Answer.{Answer, answerBytes}
 use Rattle.definition.specs.Book.{isLimit}
 use Rattle.definition.specs.Laws.Book.BookTests.{limits-to}
-use Rattle.definition.specs.Opening.{Opened, opened, openOf}
+use Rattle.definition.specs.Opening.{opened, openOf}
 use Rattle.definition.specs.Perform.{inLength, perform}
 use Rattle.definition.specs.Laws.Steps.Answers.{lists, kindOf, listing, lists-op}
 use Rattle.definition.specs.Contracts.LegalFields.{LegalCall}
@@ -50,15 +50,16 @@ replied b (m ∷ l) t = (t .0, subst (λ (c : Bytes). AtEach AsReplied l (run (m
 opened-fresh : (a h e : ℕ) (b : Bytes) → Fresh a h e b → LegalStation (fresh a h e) × (b ≡ encode (fresh a h e))
 unfolding openOf
 opened-fresh a h e b f =
-    let p = go (isLimit a && (isLimit h && isLimit e)) (eqb (length (f .slice)) (1536 * (1 + (a + h + e)))) (f .opening) in
+    let o = f .opening in
+    let p = go (isLimit a && (isLimit h && isLimit e)) (eqb (length (f .slice)) (1536 * (1 + (a + h + e)))) (o .number-is) in
     let l = limits-to a h e (true-holds _ (p .0)) in
-    (fresh-legalStation a h e (l .0) (l .1) (l .2), sym (p .1))
+    (fresh-legalStation a h e (l .0) (l .1) (l .2), o .register-is ∙ p .1)
   where
-    go : (x y : Bool) → cond x (cond y (opened 0 (encode (fresh a h e))) (opened 21 (f .slice))) (opened 20 (f .slice)) ≡ opened 0 b →
-        (x ≡ true) × (encode (fresh a h e) ≡ b)
-    go true true q = (refl, ap (λ (o : Opened). o .register) q)
-    go true false q = absurd (omega (arith, ap (λ (o : Opened). o .number) q))
-    go false y q = absurd (omega (arith, ap (λ (o : Opened). o .number) q))
+    go : (x y : Bool) → 0 ≡ cond x (cond y (opened 0 (encode (fresh a h e))) (opened 21 (f .slice))) (opened 20 (f .slice)) .number →
+        (x ≡ true) × (cond x (cond y (opened 0 (encode (fresh a h e))) (opened 21 (f .slice))) (opened 20 (f .slice)) .register ≡ encode (fresh a h e))
+    go true true q = (refl, refl)
+    go true false q = absurd (omega (arith, q))
+    go false y q = absurd (omega (arith, q))
 
 -- ---- one call on each of two stations that are alike
 
@@ -174,6 +175,6 @@ fresh-twin a h e b b′ f f′ =
 pub claim : Claim
 claim =
     record {
-      replied = λ a h e b l f t. replied b l t;
+      replied = λ a h e b l f t. rw (sym (opened-fresh a h e b f .1)) (replied b l t);
       twins = λ a h e b b′ l l′ f f′ o o′ t t′ w. twins b b′ l l′ (fresh-twin a h e b b′ f f′) o o′ t t′ w;
     }
