@@ -78,7 +78,7 @@ def claims(root):
         text = "\n".join((root / file).read_text(encoding="utf-8") for file in files)
         for name in names:
             named.update((name, file) for file in files)
-            if not re.search(rf"\bpub (?:extern \"C\" )?fn {re.escape(name)}\b|^\s*(?:\w+ )*{re.escape(name)} :", text, re.M):
+            if not re.search(rf"\bpub (?:extern \"C\" )?fn {re.escape(name)}\b|^\s*(?:\w+ )*{re.escape(name)}(?: :| \()", text, re.M):
                 yield f"docs/CLAIMS.md:{number}: {name} is not in {', '.join(files)}"
     for where, name, _, _ in functions(root):
         path = where.rsplit(":", 1)[0]
