@@ -6,5 +6,3 @@ pub mod FoundLaws
 pub mod WalkLaws
 pub mod CountLaws
 pub mod FileLaws
-pub mod Sought
-pub mod SoughtLaws

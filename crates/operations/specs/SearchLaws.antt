@@ -1,4 +1,4 @@
--- A raise and a clear are their steps, given what a search for their key found.
+-- A raise and a clear are their steps, given the first match of their key on the active chain.
 use mathlib.Core.Path.{_≡_}
 use mathlib.Core.Option.{Option}
 use Rattle.octets.specs.Bytes.{Bytes}
@@ -13,12 +13,15 @@ use Rattle.reply.specs.declared.Reply.{Reply}
 use Rattle.reply.specs.Meaning.{Replies}
 use Rattle.reply.specs.ReplyLaws.{replies-at}
 
--- k is the call's key, and o what the active chain has with it
-module _ (y : Reply) (k b b′ a a′ : Bytes) (o : Option (Entry Alarm)) (f : first (hasKey k) (station b .active) ≡ o) where
-  pub raise-sought : (c : RaiseValue) → k ≡ keyOf (c .head .type) (c .key) → Replies y (raiseAt c k o) b b′ a a′ → Replies y (raise c) b b′ a a′
-  unfolding raise _>>=_
-  raise-sought c e w = replies-at y (raiseAt c k o) (raise c) b b′ a a′ (rw (← e, f)) w
+-- k is the call's key
+module _ (y : Reply) (k b b′ a a′ : Bytes) where
+  abbrev found : Option (Entry Alarm)
+  found = first (hasKey k) (station b .active)
 
-  pub clear-sought : (c : ClearValue) → k ≡ keyOf (c .type) (c .key) → Replies y (clearAt c k o) b b′ a a′ → Replies y (clear c) b b′ a a′
+  pub raise-sought : (c : RaiseValue) → k ≡ keyOf (c .head .type) (c .key) → Replies y (raiseAt c k found) b b′ a a′ → Replies y (raise c) b b′ a a′
+  unfolding raise _>>=_
+  raise-sought c e w = replies-at y (raiseAt c k found) (raise c) b b′ a a′ (rw (← e)) w
+
+  pub clear-sought : (c : ClearValue) → k ≡ keyOf (c .type) (c .key) → Replies y (clearAt c k found) b b′ a a′ → Replies y (clear c) b b′ a a′
   unfolding clear _>>=_
-  clear-sought c e w = replies-at y (clearAt c k o) (clear c) b b′ a a′ (rw (← e, f)) w
+  clear-sought c e w = replies-at y (clearAt c k found) (clear c) b b′ a a′ (rw (← e)) w

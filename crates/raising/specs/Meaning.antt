@@ -12,7 +12,7 @@ use Rattle.raise_fields.specs.declared.Raise.{Raise}
 use Rattle.raise_fields.specs.Meaning.{raiseValue, RaiseWithin}
 use Rattle.register.specs.declared.Ends.{Ends}
 use Rattle.register.specs.Meaning.{Standing}
-use Rattle.history.specs.Walk.{alarmAt}
+use Rattle.register.specs.Search.{alarmAt}
 
 -- a sound register with its chains' ends, a raise that the call holds, and room for an alarm in the answer
 pub record Ready (b : Bytes) (e : Ends) (call : Bytes) (r : Raise) (a : Bytes) : Type 0 where

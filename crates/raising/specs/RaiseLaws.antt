@@ -3,7 +3,7 @@ use Prim.Native.Nat.{ℕ, _≤_, _<_}
 use mathlib.Core.Path.{_≡_, refl, sym, ap, _∙_, subst}
 use mathlib.Core.List.{_++_}
 use mathlib.Core.Bool.{true, false}
-use mathlib.Core.Option.{Option, some}
+use mathlib.Core.Option.{Option, none, some}
 use borrow.Author.Tests.{le-leb, lt-leb}
 use lib.Dec.{T, leb}
 use lib.ListN.{length}
@@ -12,7 +12,7 @@ use Rattle.octets.specs.Put.{Put}
 use Rattle.octets.specs.PutLaws.{put-as}
 use Rattle.definition.specs.Value.{RaiseValue}
 use Rattle.definition.specs.Chain.{Entry, entry, present, first}
-use Rattle.definition.specs.Alarm.{Alarm, hasId}
+use Rattle.definition.specs.Alarm.{Alarm, hasKey, hasId}
 use Rattle.definition.specs.Contracts.LegalFields.{LegalRaise}
 use Rattle.definition.specs.Laws.Steps.ChangedLegal.{updated-legal, new-legal}
 use Rattle.definition.specs.Record.{lastActive, alarmBytes, readAlarm}
@@ -23,7 +23,7 @@ use Rattle.definition.specs.Answer.{Raised, Updated, ActiveLimitExceeded, head,
 use Rattle.definition.specs.Sound.{station, sound}
 use Rattle.definition.specs.Contracts.Does.{Does, Answers, Refuses}
 use Rattle.history.specs.Meaning.{IsAlarm, OnActive, Changes}
-use Rattle.history.specs.Walk.{alarmAt}
+use Rattle.register.specs.Search.{alarmAt}
 use Rattle.history.specs.DoesLaws.{does-then, does-look, does-yes, does-no}
 use Rattle.history.specs.FoundLaws.{alarm-payload, payload-as, changed-payload}
 use Rattle.answers.specs.AnswerLaws.{alarm-as, answers-put}
@@ -87,8 +87,15 @@ module _ (c : RaiseValue) (k b : Bytes) (h : T (sound b)) where
   unfolding raiseAt _>>=_
   has-room y b′ a a′ room r = replies-at y (storeNew new) (raisesNew c k) b b′ a a′ (rw (lt-leb (station b .limitA) (length (station b .active)) room)) r
 
--- ---- given what a search found
+-- ---- given what a search for the key k found
 
-pub raise-at-found : (c : RaiseValue) (k b b′ a a′ : Bytes) (i n : ℕ) → Answers (updatesAt b i c) b b′ a a′ n → Answers (raiseAt c k (some (entry i (alarmAt b i)))) b b′ a a′ n
-unfolding raiseAt
-raise-at-found c k b b′ a a′ i n w = w
+module _ (c : RaiseValue) (k b b′ a a′ : Bytes) where
+  abbrev found : Option (Entry Alarm)
+  found = first (hasKey k) (station b .active)
+
+  pub raise-at-found : (i n : ℕ) → found ≡ some (entry i (alarmAt b i)) → Answers (updatesAt b i c) b b′ a a′ n → Answers (raiseAt c k found) b b′ a a′ n
+  unfolding raiseAt
+  raise-at-found i n f w = rw f w
+
+  pub raise-at-none : (y : Reply) → found ≡ none → Replies y (raisesNew c k) b b′ a a′ → Replies y (raiseAt c k found) b b′ a a′
+  raise-at-none y f w = rw f w

@@ -9,15 +9,15 @@ ghost use mathlib.Core.Path.{_≡_};
 ghost use lib.Dec.{T};
 ghost use lib.ListN.{length};
 ghost use Rattle.definition.specs.Chain.{present, first};
-ghost use Rattle.definition.specs.Alarm.{hasId};
+ghost use Rattle.definition.specs.Alarm.{hasKey, hasId};
 ghost use Rattle.definition.specs.Limits.{shortLimit};
 ghost use Rattle.definition.specs.Sound.{station, sound};
 ghost use Rattle.definition.specs.Steps as S;
 ghost use Rattle.definition.specs.Contracts.Does.{Answers};
 ghost use Rattle.model.specs.Meaning.{part, within};
 ghost use Rattle.raise_fields.specs.Meaning.{raiseValue};
+ghost use Rattle.register.specs.Search.{Finds};
 ghost use Rattle.history.specs.Meaning.{OnActive, ActiveRoom};
-ghost use Rattle.history.specs.Sought.{foundOf, Sits};
 ghost use Rattle.reply.specs.Meaning.{Replies};
 ghost use Rattle.raising.specs.Meaning.{Ready, updatesAt, raisesNew};
 use changes::News;
@@ -133,7 +133,7 @@ fn raise_new(
     insert(register, ends, call, r, key, answer)
 }
 
-// A raise whose key was looked for.
+// A raise whose key was looked for, in whatever way.
 pub fn raise_at(
     register: &mut [u8],
     ends: Ends,
@@ -145,11 +145,14 @@ pub fn raise_at(
 ) -> Reply
     requires { ⌜ Ready (now register) ends (now call) r (now answer)
         × (length (now key) ≡ 16)
-        × Sits (now register) found ⌝ }
+        × Finds (hasKey (now key)) (now register) found ⌝ }
     ensures { λ y.
         ⌜ Replies
         y
-        (S.raiseAt (raiseValue (now (call .entry)) r) (now (key .entry)) (foundOf (now (register .entry)) found))
+        (S.raiseAt
+        (raiseValue (now (call .entry)) r)
+        (now (key .entry))
+        (first (hasKey (now (key .entry))) (station (now (register .entry)) .active)))
         (now (register .entry))
         (now (register .exit))
         (now (answer .entry))

@@ -2,7 +2,7 @@
 use Prim.Native.Nat.{ℕ, _≤_}
 use mathlib.Core.Path.{_≡_, refl, sym, ap, _∙_, subst}
 use mathlib.Core.List.{_++_}
-use mathlib.Core.Option.{none}
+use mathlib.Core.Option.{none, some}
 use native.Mathlib.Omega.{arith}
 use borrow.Author.Tests.{eq-eqb, ne-eqb}
 use lib.Dec.{T, eqb}
@@ -10,7 +10,7 @@ use Rattle.octets.specs.Bytes.{Bytes, be32}
 use Rattle.octets.specs.Put.{Put}
 use Rattle.octets.specs.PutLaws.{put-as}
 use Rattle.definition.specs.Key.{string}
-use Rattle.definition.specs.Chain.{entry, first}
+use Rattle.definition.specs.Chain.{Entry, entry, first}
 use Rattle.definition.specs.Alarm.{Alarm, hasId}
 use Rattle.definition.specs.Record.{lastActive, alarmBytes, readAlarm}
 use Rattle.definition.specs.Book.{recordOf}
@@ -23,9 +23,9 @@ use Rattle.definition.specs.Answer.{Answer, Unauthorized, NotFound, head, headO
 use Rattle.definition.specs.Sound.{station, sound}
 use Rattle.definition.specs.Contracts.Does.{Does, Answers}
 use Rattle.history.specs.Meaning.{IsAlarm, OnActive, Changes}
-use Rattle.history.specs.Walk.{alarmAt}
+use Rattle.register.specs.Search.{alarmAt}
 use Rattle.history.specs.DoesLaws.{does-then, does-give, does-look, does-yes, does-no}
-use Rattle.history.specs.FoundLaws.{FoundAt, payload-as, changed-payload}
+use Rattle.history.specs.FoundLaws.{payload-as, changed-payload}
 use Rattle.answers.specs.AnswerLaws.{alarm-as, answer-as, answers-put}
 use Rattle.state.specs.Meaning.{plainOf, actionCode}
 
@@ -66,11 +66,11 @@ module _ (x : Action) (time : ℕ) (id : Bytes) (b b′ a a′ : Bytes) (n : ℕ
   unauthorised f z e w = answers-put (rw e (does-yes (eqb f 0) _ _ (eq-eqb f 0 z) (does-give b (Unauthorized (notAuthorized x)) h))) w
 
   module _ (f : ℕ) (yes-flag : 1 ≤ f) where
-    pub on-found : (i p : ℕ) → FoundAt (hasId id) b i p → Answers (act x time (entry i (alarmAt b i))) b b′ a a′ n → Answers (plain x (plainOf time id f)) b b′ a a′ n
+    pub on-found : (e : Entry Alarm) → first (hasId id) (station b .active) ≡ some e → Answers (act x time e) b b′ a a′ n → Answers (plain x (plainOf time id f)) b b′ a a′ n
     unfolding plain plainAt
-    on-found i p held w = record {
+    on-found e k w = record {
       value = w .value;
-      does = does-no (eqb f 0) _ _ (ne-eqb f 0 (λ z. omega (arith, z))) (does-then (plainAt x (plainOf time id f)) (does-look b _ h) (rw (held .found) (w .does)));
+      does = does-no (eqb f 0) _ _ (ne-eqb f 0 (λ z. omega (arith, z))) (does-then (plainAt x (plainOf time id f)) (does-look b _ h) (rw k (w .does)));
       size = w .size;
       bytes = w .bytes;
     }

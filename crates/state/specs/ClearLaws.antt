@@ -2,7 +2,7 @@
 use Prim.Native.Nat.{ℕ, _≤_}
 use mathlib.Core.Path.{_≡_, refl, sym, ap, _∙_, subst}
 use mathlib.Core.List.{_++_}
-use mathlib.Core.Option.{none, some}
+use mathlib.Core.Option.{Option, none, some}
 use lib.Dec.{T}
 use lib.ListN.{length}
 use Rattle.octets.specs.Bytes.{Bytes}
@@ -10,8 +10,8 @@ use Rattle.octets.specs.Put.{Put}
 use Rattle.octets.specs.PutLaws.{put-as}
 use Rattle.definition.specs.Value.{ClearValue}
 use Rattle.definition.specs.Key.{string}
-use Rattle.definition.specs.Chain.{entry}
-use Rattle.definition.specs.Alarm.{Alarm}
+use Rattle.definition.specs.Chain.{Entry, entry, first}
+use Rattle.definition.specs.Alarm.{Alarm, hasKey}
 use Rattle.definition.specs.Record.{lastActive, lastState, alarmBytes, readAlarm}
 use Rattle.definition.specs.Book.{recordOf}
 use Rattle.definition.specs.Limits.{shortLimit}
@@ -19,10 +19,10 @@ use Rattle.definition.specs.Contracts.LegalFields.{Time}
 use Rattle.definition.specs.Laws.Steps.ChangedLegal.{cleared-legal}
 use Rattle.definition.specs.Steps.{clearedBy, clearAt, retire}
 use Rattle.definition.specs.Answer.{Cleared, ClearWithoutActive, head, headBytes, answerBytes}
-use Rattle.definition.specs.Sound.{sound}
+use Rattle.definition.specs.Sound.{station, sound}
 use Rattle.definition.specs.Contracts.Does.{Does, Answers}
 use Rattle.history.specs.Meaning.{IsAlarm, OnActive, Files}
-use Rattle.history.specs.Walk.{alarmAt}
+use Rattle.register.specs.Search.{alarmAt}
 use Rattle.history.specs.DoesLaws.{does-then, does-give}
 use Rattle.history.specs.FoundLaws.{payload-legal, on-alarm, changed-payload}
 use Rattle.answers.specs.AnswerLaws.{answer-as, answers-put}
@@ -49,12 +49,18 @@ module _ (b q p : Bytes) (i time : ℕ) (h : T (sound b)) (o : OnActive b i) (t 
       (does-then _ (subst (λ (y : Alarm). Does (retire i y) b b′ tt) (cleared-payload .1) (f .does)) (does-give b′ (Cleared (was .id)) (f .does .sound)))
       (put-as (answer-as (Cleared (was .id)) refl (ap string (sym (k ∙ cleared-id)))) w)
 
--- ---- given what a search found
+-- ---- given what a search for the key k found
 
-pub clear-at-found : (c : ClearValue) (k b b′ a a′ : Bytes) (i n : ℕ) → Answers (clearedAt (c .time) (entry i (alarmAt b i))) b b′ a a′ n → Answers (clearAt c k (some (entry i (alarmAt b i)))) b b′ a a′ n
-unfolding clearAt
-clear-at-found c k b b′ a a′ i n w = w
+module _ (c : ClearValue) (k b b′ a a′ : Bytes) (n : ℕ) where
+  abbrev found : Option (Entry Alarm)
+  found = first (hasKey k) (station b .active)
 
-pub clear-at-none : (c : ClearValue) (k b a a′ : Bytes) (n : ℕ) → T (sound b) → Put a 0 (answerBytes (ClearWithoutActive k (c .key .cause))) n a′ → Answers (clearAt c k none) b b a a′ n
-unfolding clearAt
-clear-at-none c k b a a′ n h w = answers-put (does-give b (ClearWithoutActive k (c .key .cause)) h) w
+  pub clear-at-found : (e : Entry Alarm) → found ≡ some e → Answers (clearedAt (c .time) e) b b′ a a′ n → Answers (clearAt c k found) b b′ a a′ n
+  unfolding clearAt
+  clear-at-found e f w = rw f w
+
+  pub clear-at-none :
+      T (sound b) → found ≡ none → b′ ≡ b → Put a 0 (answerBytes (ClearWithoutActive k (c .key .cause))) n a′ →
+      Answers (clearAt c k found) b b′ a a′ n
+  unfolding clearAt
+  clear-at-none h f q w = rw (f, q) (answers-put (does-give b (ClearWithoutActive k (c .key .cause)) h) w)

@@ -9,21 +9,21 @@ ghost use Prim.Native.Nat.{_≤_};
 ghost use lib.Dec.{T};
 ghost use lib.ListN.{length};
 ghost use Rattle.definition.specs.Limits.{shortLimit};
-ghost use Rattle.definition.specs.Chain.{entry};
+ghost use Rattle.definition.specs.Chain.{entry, first};
+ghost use Rattle.definition.specs.Alarm.{hasKey};
 ghost use Rattle.definition.specs.Record.{lastActive};
 ghost use Rattle.definition.specs.Book.{payloadWidth, recordOf};
 ghost use Rattle.definition.specs.Steps as S;
 ghost use Rattle.definition.specs.Answer.{Unauthorized, answerBytes};
-ghost use Rattle.definition.specs.Sound.{sound};
+ghost use Rattle.definition.specs.Sound.{station, sound};
 ghost use Rattle.definition.specs.Contracts.Moves.{CanRelease};
 ghost use Rattle.definition.specs.Contracts.Does.{Answers};
 ghost use Rattle.octets.specs.Put.{Put};
 ghost use Rattle.model.specs.Meaning.{within, actionOf};
 ghost use Rattle.raise_fields.specs.Meaning.{clearValue};
 ghost use Rattle.action_fields.specs.Meaning.{plainValue};
+ghost use Rattle.register.specs.Search.{alarmAt, Finds};
 ghost use Rattle.history.specs.Meaning.{IsAlarm, Newest, OnActive};
-ghost use Rattle.history.specs.Sought.{foundOf, Sits};
-ghost use Rattle.history.specs.Walk.{alarmAt};
 ghost use Rattle.state.specs.Meaning.{Authorised, Clearing, actionCode, clearedAt};
 use action_fields::Plain;
 use model::Action;
@@ -188,7 +188,7 @@ fn clear_found(
     answers::put_text(answer, 3, record::id(&p))
 }
 
-// A clear whose key was looked for.
+// A clear whose key was looked for, in whatever way.
 pub fn clear_at(
     register: &mut [u8],
     ends: Ends,
@@ -200,10 +200,13 @@ pub fn clear_at(
 ) -> usize
     requires { ⌜ Clearing (now register) ends (now call) c (now answer)
         × (length (now key) ≡ 16)
-        × Sits (now register) found ⌝ }
+        × Finds (hasKey (now key)) (now register) found ⌝ }
     ensures { λ r.
         ⌜ Answers
-        (S.clearAt (clearValue (now (call .entry)) c) (now (key .entry)) (foundOf (now (register .entry)) found))
+        (S.clearAt
+        (clearValue (now (call .entry)) c)
+        (now (key .entry))
+        (first (hasKey (now (key .entry))) (station (now (register .entry)) .active)))
         (now (register .entry))
         (now (register .exit))
         (now (answer .entry))

@@ -1,7 +1,5 @@
 -- `clear`: the step, given what the search for the key found.
 use borrow.Author.Needs.{needs}
-use Rattle.definition.specs.Alarm.{hasKey}
-use Rattle.history.specs.SoughtLaws.{sought}
 use Rattle.reply.specs.declared.Reply.the-variants.{Answered}
 use Rattle.operations.specs.SearchLaws.{clear-sought}
 use Rattle.operations.proofs.clear.Statement.{statement}
@@ -14,15 +12,14 @@ clear-at-requires : tie.Need-clear-at-requires
 clear-at-requires c κs =
     let f = c .before .before .before in
     let s = f .before .before .before .before .before .before .before .before in
-    (s .pre, search needs, sought _ (s .pre .newest .whole) (hasKey _) _ (f .find-key .ensures) .1)
+    (s .pre, search needs, f .find-key .ensures)
 
 returns : tie.Need-returns
 returns c =
     let r = c .before .before .before .before in
     let f = r .before .before .before .before in
     let k = f .before .before .before in
-    let s = k .before .before .before .before .before in
-    clear-sought (Answered (r .clear-at .result)) _ _ _ _ _ _ (sought _ (s .pre .newest .whole) (hasKey _) _ (f .find-key .ensures) .0) _ (k .key-of .ensures) (r .clear-at .ensures)
+    clear-sought (Answered (r .clear-at .result)) _ _ _ _ _ _ (k .key-of .ensures) (r .clear-at .ensures)
 
 pub clear-spec : {M : Type 1} → statement M
 clear-spec =

@@ -1,7 +1,5 @@
 -- `raise`: the step, given what the search for the key found.
 use borrow.Author.Needs.{needs}
-use Rattle.definition.specs.Alarm.{hasKey}
-use Rattle.history.specs.SoughtLaws.{sought}
 use Rattle.operations.specs.SearchLaws.{raise-sought}
 use Rattle.operations.proofs.raise.Statement.{statement}
 use Rattle.operations.proofs.raise.Tie as tie
@@ -13,15 +11,14 @@ raise-at-requires : tie.Need-raise-at-requires
 raise-at-requires c κs =
     let f = c .before .before .before in
     let s = f .before .before .before .before .before .before .before .before in
-    (s .pre, search needs, sought _ (s .pre .standing .whole) (hasKey _) _ (f .find-key .ensures) .1)
+    (s .pre, search needs, f .find-key .ensures)
 
 returns : tie.Need-returns
 returns c =
     let r = c .before .before .before .before in
     let f = r .before .before .before .before in
     let k = f .before .before .before in
-    let s = k .before .before .before .before .before in
-    raise-sought (r .raise-at .result) _ _ _ _ _ _ (sought _ (s .pre .standing .whole) (hasKey _) _ (f .find-key .ensures) .0) _ (k .key-of .ensures) (r .raise-at .ensures)
+    raise-sought (r .raise-at .result) _ _ _ _ _ _ (k .key-of .ensures) (r .raise-at .ensures)
 
 pub raise-spec : {M : Type 1} → statement M
 raise-spec =
