@@ -13,7 +13,7 @@ import repository
 from checklist import HERE, Skip, faults_of, run
 
 RECORD, BOOK = "crates/definition/specs/Record.antt", "crates/definition/specs/Book.antt"
-LIMITS, MODEL = "crates/definition/specs/Limits.antt", "crates/model/src/lib.rt"
+LIMITS, MODEL, PLACES = "crates/definition/specs/Limits.antt", "crates/model/src/lib.rt", "crates/record/src/places.rt"
 CONTRACTS = "crates/definition/specs/Contracts/Does.antt"
 CODE, SPECS, LAWS = "crates/octets/src/lib.rt", "crates/octets/specs/Bytes.antt", "crates/octets/specs/BoolLaws.antt"
 VECTORS = "crates/sha256_vectors/stdout"
@@ -49,6 +49,12 @@ DAMAGES = {
     (layout, "constants of the record type"): [
         ("a limit", MODEL, r"CAUSE: usize = 96", "CAUSE: usize = 64"),
         ("a constant left out", MODEL, r"pub const WIDTH.*\n", ""),
+    ],
+    (layout, "places in the code"): [
+        ("a place of the header", MODEL, r"FREE_FIRST: usize = 36", "FREE_FIRST: usize = 32"),
+        ("the width of a slot", PLACES, r"CAUSE: usize = Self::LENGTH \+ Record::CAUSE", "CAUSE: usize = Self::LENGTH + Record::SHORT"),
+        ("a slot left out", PLACES, r"Self::SLICE \+ Slot::OPTIONAL_SHORT", "Self::TENANT + Slot::OPTIONAL_SHORT"),
+        ("a place that is no sum", PLACES, r"Self::SECOND \+ Slot::SHORT", "Self::SECOND + short(Slot::SHORT)"),
     ],
     (layout, "limits of the definition"): [
         ("a limit", LIMITS, r"textLimit = 256", "textLimit = 255"),

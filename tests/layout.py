@@ -8,6 +8,7 @@ from checklist import Skip, run
 
 WIDTH = 1536
 LINK = 4
+HEAD = 16
 
 # Document 01, "Longest, in bytes".
 SHORT, CAUSE, REGION, TEXT, DETAILS = 64, 96, 128, 256, 512
@@ -217,16 +218,58 @@ def held_to(path, found, wanted):
             yield f"{path}: {name} is {found[name]}, not {value}"
 
 
+# ---- constants of the code
+
+MODEL, PLACES = "crates/model/src/lib.rt", "crates/record/src/places.rt"
+
+
+def constants(root):
+    """The associated constants of the model's types and of the table of places, computed: {'Record': {'WIDTH': 1536, ..}, ..}."""
+    terms = {}
+    for path in (MODEL, PLACES):
+        for owner, body in re.findall(r"^impl (\w+) \{\n(.*?)^\}", read(root, path), re.M | re.S):
+            for name, term in re.findall(r"pub const (\w+): usize = ([^;]+);", body):
+                terms[f"{owner}::{name}"] = term.replace("Self::", f"{owner}::")
+
+    def value(term):
+        digits = re.sub(r"\w+::\w+", lambda found: str(value(terms.get(found.group(), "?"))), term)
+        if not re.fullmatch(r"[\d+* -]+", digits):
+            raise ValueError(f"a constant is no sum of numbers: {term}")
+        return eval(digits)
+
+    found = {}
+    for name, term in terms.items():
+        owner, name = name.split("::")
+        found.setdefault(owner, {})[name] = value(term)
+    return found
+
+
 def model(root):
-    """The constants of the record type are document 01's limits and the record's width."""
-    path = "crates/model/src/lib.rt"
-    body = re.search(r"^impl Record \{\n(.*?)^\}", read(root, path), re.M | re.S)
-    if not body:
-        yield f"{path}: no `impl Record`"
-        return
-    consts = re.findall(r"pub const (\w+): usize = ([\d_]+);", body.group(1))
-    yield from held_to(path, {name: int(value.replace("_", "")) for name, value in consts}, {
-        "WIDTH": WIDTH, "SHORT": SHORT, "CAUSE": CAUSE, "REGION": REGION, "TEXT": TEXT, "DETAILS": DETAILS})
+    """The constants of the record type are document 01's limits and the record's widths; an answer's head is its 16 bytes."""
+    found = constants(root)
+    yield from held_to(f"{MODEL}: Record", found["Record"], {
+        "WIDTH": WIDTH, "LINK": LINK, "PAYLOAD": WIDTH - LINK, "KEY": NUMBER["key"],
+        "SHORT": SHORT, "CAUSE": CAUSE, "REGION": REGION, "TEXT": TEXT, "DETAILS": DETAILS})
+    yield from held_to(f"{MODEL}: Answer", found["Answer"], {"HEAD": HEAD})
+
+
+def places(root):
+    """The places of the header's numbers, of a payload's slots and of an object's parts are the layout's."""
+    found, data = constants(root), layout(root)
+    at = {name: offset for name, (offset, _) in data["header"].items()}
+    yield from held_to(f"{MODEL}: HeaderAt", found["HeaderAt"], {
+        "ACTIVE_LIMIT": at["A"], "HISTORY_LIMIT": at["H"], "AUDIT_LIMIT": at["E"],
+        "FIRST": at["active_head"], "HELD": at["active_length"], "CHAIN": at["history_head"] - at["active_head"],
+        "FREE_FIRST": at["free_head"], "FREE_HELD": at["free_length"],
+        "SUCCESSES": at["successes"], "FAILURES": at["failures"], "SPARE": extent(json_slots(root, "header"))[1]})
+    for owner, part in (("AlarmAt", "alarm"), ("EventAt", "event")):
+        wanted = {name.upper(): extent(field_slots(name, field))[0] - LINK for name, field in data[part].items()}
+        wanted["SPARE"] = extent(json_slots(root, part))[1] - LINK
+        yield from held_to(f"{PLACES}: {owner}", found[owner], wanted)
+    parts = data["alarm"]["object"]
+    first, second = (string["len"][0] for string in parts["strings"])
+    wanted = {"FIRST": first, "MARK": parts["shard_present"], "SECOND": second, "QUEUE": parts["queue"]}
+    yield from held_to(f"{PLACES}: ObjectAt", found["ObjectAt"], {name: at - parts["kind"] for name, at in wanted.items()})
 
 
 def limits(root):
@@ -328,6 +371,7 @@ CHECKS = {
     "strings of each kind": kinds,
     "stretches of sameness and texts": stretches,
     "constants of the record type": model,
+    "places in the code": places,
     "limits of the definition": limits,
     "slots of the definition's records": slots,
     "header of the definition": header,

@@ -7,7 +7,9 @@
 //
 // Lists are written entry by entry with the head last (specs/EntryLaws.antt); that an answer is the one which a step
 // promises is in specs/AnswerLaws.antt.
+use model::Answer;
 use model::CauseSpan;
+use model::Record;
 ghost use mathlib.Core.Path.{_≡_};
 ghost use mathlib.Core.List.{_++_};
 ghost use Prim.Native.Nat.{_+_, _≤_, _<_};
@@ -29,7 +31,7 @@ pub fn put_head(answer: &mut [u8], code: u8, count: u32, number: u64) -> usize
     octets::put_zeros(answer, 1, 3);
     octets::put32(answer, 4, count);
     octets::put64(answer, 8, number);
-    16
+    Answer::HEAD
 }
 
 // A record, its next index zero.
@@ -38,9 +40,9 @@ pub fn put_record(answer: &mut [u8], at: usize, payload: &[u8]) -> usize
     ensures { λ r. ⌜ Put (now (answer .entry)) at (be32 0 ++ now (payload .entry)) r (now (answer .exit)) ⌝ }
 {
     octets::put32(answer, at, 0);
-    let a = at + 4;
+    let a = at + Record::LINK;
     octets::put_bytes(answer, a, payload);
-    at + 1536
+    at + Record::WIDTH
 }
 
 // How many active alarms have a severity and a cause, as operation 10 lists it.
@@ -97,6 +99,9 @@ pub fn put_number(answer: &mut [u8], n: u64) -> usize
 
 // ---- a key, as codes 4 and 5 begin
 
+// A key's digits, two to a byte.
+const HEX: usize = 2 * Record::KEY;
+
 // A head, and the key's digits.
 fn put_key(answer: &mut [u8], code: u8, number: u64, key: &[u8]) -> usize
     requires { ⌜ (48 ≤ length (now answer)) × (length (now key) ≡ 16) ⌝ }
@@ -110,7 +115,7 @@ fn put_key(answer: &mut [u8], code: u8, number: u64, key: &[u8]) -> usize
 {
     let n = put_head(answer, code, 0, number);
     key::put_hex(answer, n, key);
-    n + 32
+    n + HEX
 }
 
 // A clear that found no active alarm: its key, and its cause in the stored form.
@@ -144,6 +149,21 @@ pub fn put_limit(answer: &mut [u8], key: &[u8], n: u64) -> usize
 
 // ---- operation 11
 
+// Where the numbers of its body stand, and where it ends.
+struct SummaryAt {}
+
+impl SummaryAt {
+    const WORST: usize = Answer::HEAD;
+
+    const READINESS: usize = Self::WORST + 1;
+
+    const SUCCESSES: usize = Self::READINESS + 1;
+
+    const FAILURES: usize = Self::SUCCESSES + 8;
+
+    const END: usize = Self::FAILURES + 8;
+}
+
 pub fn put_summary(
     answer: &mut [u8],
     active: u64,
@@ -164,9 +184,9 @@ pub fn put_summary(
         (now (answer .exit)) ⌝ }
 {
     put_head(answer, 11, 0, active);
-    octets::put_byte(answer, 16, worst);
-    octets::put_byte(answer, 17, readiness);
-    octets::put64(answer, 18, successes);
-    octets::put64(answer, 26, failures);
-    34
+    octets::put_byte(answer, SummaryAt::WORST, worst);
+    octets::put_byte(answer, SummaryAt::READINESS, readiness);
+    octets::put64(answer, SummaryAt::SUCCESSES, successes);
+    octets::put64(answer, SummaryAt::FAILURES, failures);
+    SummaryAt::END
 }

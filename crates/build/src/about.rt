@@ -6,6 +6,8 @@ use model::OptSpan;
 use model::Record;
 use model::Span;
 use record::AlarmAt;
+use record::ObjectAt;
+use record::Slot;
 ghost use mathlib.Core.Path.{_≡_};
 ghost use lib.ListN.{length};
 ghost use Rattle.octets.specs.Bytes.{splice};
@@ -15,17 +17,25 @@ ghost use Rattle.definition.specs.Record.{causeSlot, objectSlot};
 ghost use Rattle.model.specs.Meaning.{causePart, objectValue, within, optWithin, causeWithin, objectWithin};
 ghost use Rattle.build.specs.Stretch.{pairOf, singleOf, storeOf};
 
-// The cause in its stored form. It is put as a string of a call first, with a length of four bytes.
+// A string's length in a call.
+const LENGTH: usize = 4;
+
+// The cause in its stored form. It is put as a string of a call first.
 pub(crate) fn cause_into(p: &mut [u8], call: &[u8], c: CauseSpan)
     requires { ⌜ (length (now p) ≡ payloadWidth) × causeWithin (now call) c ⌝ }
     ensures { λ _. ⌜ now (p .exit) ≡ splice (now (p .entry)) 175 (causeSlot .put (causePart (now (call .entry)) c)) ⌝ }
 {
-    let mut string = [0u8; 100];
+    let mut string = [0u8; LENGTH + Record::CAUSE];
     let e = strings::put_cause(&mut string, 0, call, c);
-    record::put_string(p, AlarmAt::CAUSE, Record::CAUSE, &string[4..e]);
+    record::put_string(p, AlarmAt::CAUSE, Record::CAUSE, &string[LENGTH..e]);
 }
 
 // ---- the affected object
+
+// Where the mark of its second string stands in the payload, and its queue.
+const MARK: usize = AlarmAt::OBJECT + ObjectAt::MARK;
+
+const QUEUE: usize = AlarmAt::OBJECT + ObjectAt::QUEUE;
 
 // Two strings, and a queue, which is 0 where the kind has none.
 fn pair_into(p: &mut [u8], call: &[u8], kind: u8, a: Span, b: Span, queue: u16)
@@ -33,8 +43,8 @@ fn pair_into(p: &mut [u8], call: &[u8], kind: u8, a: Span, b: Span, queue: u16)
     ensures { λ _. ⌜ now (p .exit) ≡ splice (now (p .entry)) 273 (pairOf (now (call .entry)) kind a b queue) ⌝ }
 {
     slots::marked_into(p, AlarmAt::OBJECT, Record::SHORT, kind, call, a);
-    slots::marked_into(p, AlarmAt::OBJECT + 67, Record::SHORT, 0, call, b);
-    octets::put16(p, AlarmAt::OBJECT + 134, queue);
+    slots::marked_into(p, MARK, Record::SHORT, 0, call, b);
+    octets::put16(p, QUEUE, queue);
 }
 
 // One string.
@@ -43,8 +53,8 @@ fn single_into(p: &mut [u8], call: &[u8], kind: u8, a: Span)
     ensures { λ _. ⌜ now (p .exit) ≡ splice (now (p .entry)) 273 (singleOf (now (call .entry)) kind a) ⌝ }
 {
     slots::marked_into(p, AlarmAt::OBJECT, Record::SHORT, kind, call, a);
-    octets::put_zeros(p, AlarmAt::OBJECT + 67, 67);
-    octets::put16(p, AlarmAt::OBJECT + 134, 0);
+    octets::put_zeros(p, MARK, Slot::OPTIONAL_SHORT);
+    octets::put16(p, QUEUE, 0);
 }
 
 // A session store, with its shard.
@@ -55,8 +65,8 @@ fn store_into(p: &mut [u8], call: &[u8], a: Span, shard: OptSpan)
     ensures { λ _. ⌜ now (p .exit) ≡ splice (now (p .entry)) 273 (storeOf (now (call .entry)) a shard) ⌝ }
 {
     slots::marked_into(p, AlarmAt::OBJECT, Record::SHORT, 4, call, a);
-    slots::option_into(p, AlarmAt::OBJECT + 67, Record::SHORT, call, shard);
-    octets::put16(p, AlarmAt::OBJECT + 134, 0);
+    slots::option_into(p, MARK, Record::SHORT, call, shard);
+    octets::put16(p, QUEUE, 0);
 }
 
 pub(crate) fn object_into(p: &mut [u8], call: &[u8], o: AffectedObject)

@@ -1,6 +1,7 @@
 // Parts of a call in the slots of a record.
 use model::OptSpan;
 use model::Span;
+use record::Slot;
 ghost use mathlib.Core.Path.{_≡_};
 ghost use mathlib.Core.List.{_∷_};
 ghost use Prim.Native.Nat.{_+_, _≤_};
@@ -33,7 +34,7 @@ pub(crate) fn option_into(p: &mut [u8], at: usize, n: usize, call: &[u8], s: Opt
     ensures { λ _. ⌜ now (p .exit) ≡ splice (now (p .entry)) at (optionOf n (now (call .entry)) s) ⌝ }
 {
     match s {
-        OptSpan::Absent => octets::put_zeros(p, at, 3 + n),
+        OptSpan::Absent => octets::put_zeros(p, at, Slot::MARKED + n),
         OptSpan::Present(q) => marked_into(p, at, n, 1, call, q),
     }
 }

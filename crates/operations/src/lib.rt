@@ -19,6 +19,7 @@ ghost use Rattle.state.specs.Meaning.{Clearing};
 ghost use Rattle.reply.specs.Meaning.{Replies};
 ghost use Rattle.operations.specs.Meaning.{Called, HasRoom, withRoom};
 use call::Parsed;
+use model::Answer;
 use model::Record;
 use raise_fields::Clear;
 use raise_fields::Raise;
@@ -26,7 +27,7 @@ use register::Ends;
 use reply::Reply;
 
 // A head and a record.
-const ROOM: usize = 16 + Record::WIDTH;
+const ROOM: usize = Answer::HEAD + Record::WIDTH;
 
 // ---- 1 and 2: a step, given what the search for the key found
 

@@ -1,6 +1,5 @@
 // The fields of an alarm in its payload, the 1,532 bytes of a record behind the next index: read, compared, and
-// changed in place. Where each field stands is said here once for all code (`AlarmAt`, `EventAt`); docs/LAYOUT.md has
-// the tables.
+// changed in place. Where each field stands, and how wide its slot is, places.rt says once for all code.
 //
 // Readers promise the field of the definition's `readAlarm` of the bytes, whatever these are. Setters promise
 // `Becomes` (specs/Change.antt): just these bytes are replaced, and what held an alarm holds it with that field
@@ -22,71 +21,12 @@ ghost use Rattle.record.specs.Meaning.{stringAt, optionAt};
 ghost use Rattle.record.specs.Change.{Becomes};
 use model::Record;
 
-// Where the slots of an alarm start.
-pub struct AlarmAt {}
+mod places;
 
-impl AlarmAt {
-    pub const KEY: usize = 0;
-
-    pub const SEVERITY: usize = 16;
-
-    pub const STATE: usize = 17;
-
-    pub const RAISED_AT: usize = 18;
-
-    pub const UPDATED_AT: usize = 26;
-
-    pub const CLEARED_AT: usize = 34;
-
-    pub const ID: usize = 43;
-
-    pub const TYPE: usize = 109;
-
-    pub const CAUSE: usize = 175;
-
-    pub const OBJECT: usize = 273;
-
-    pub const TENANT: usize = 409;
-
-    pub const SLICE: usize = 476;
-
-    pub const REGION: usize = 543;
-
-    pub const TEXT: usize = 674;
-
-    pub const DETAILS: usize = 932;
-
-    pub const SPARE: usize = 1447;
-}
-
-// Where the slots of an event start.
-pub struct EventAt {}
-
-impl EventAt {
-    pub const ACTION: usize = 0;
-
-    pub const OUTCOME: usize = 1;
-
-    pub const OCCURRED_AT: usize = 2;
-
-    pub const ID: usize = 10;
-
-    pub const TYPE: usize = 76;
-
-    pub const CAUSE: usize = 142;
-
-    pub const PRINCIPAL: usize = 240;
-
-    pub const TENANT: usize = 306;
-
-    pub const REASON: usize = 373;
-
-    pub const SCOPE: usize = 631;
-
-    pub const CORRELATION: usize = 698;
-
-    pub const SPARE: usize = 765;
-}
+pub use places::AlarmAt;
+pub use places::EventAt;
+pub use places::ObjectAt;
+pub use places::Slot;
 
 // ---- fields read
 
@@ -124,7 +64,7 @@ fn string_of(p: &[u8], at: usize, n: usize) -> &[u8]
     ensures { λ r. ⌜ now r ≡ stringAt n (now (p .entry)) at ⌝ }
 {
     let m = octets::get16(p, at) as usize;
-    let a = at + 2;
+    let a = at + Slot::LENGTH;
     if n < m {
         let e = a + n;
         return &p[a..e];
@@ -155,7 +95,7 @@ pub fn has_some(p: &[u8], at: usize, n: usize, s: &[u8]) -> bool
     if p[at] == 0 {
         return false;
     }
-    let a = at + 1;
+    let a = at + Slot::MARK;
     octets::equal(s, string_of(p, a, n))
 }
 
@@ -186,7 +126,7 @@ pub fn put_string(p: &mut [u8], at: usize, n: usize, s: &[u8])
 {
     let m = s.len();
     octets::put16(p, at, m as u16);
-    let a = at + 2;
+    let a = at + Slot::LENGTH;
     octets::put_bytes(p, a, s);
     let b = a + m;
     octets::put_zeros(p, b, n - m);
@@ -198,7 +138,7 @@ pub fn put_marked(p: &mut [u8], at: usize, n: usize, mark: u8, s: &[u8])
     ensures { λ _. ⌜ now (p .exit) ≡ splice (now (p .entry)) at (mark ∷ stringBytes n (now (s .entry))) ⌝ }
 {
     octets::put_byte(p, at, mark);
-    let a = at + 1;
+    let a = at + Slot::MARK;
     put_string(p, a, n, s);
 }
 
@@ -228,7 +168,7 @@ pub fn set_cleared(p: &mut [u8], t: u64)
     ensures { λ _. ⌜ Becomes (withCleared t) 34 (1 ∷ digits 8 t) (now (p .entry)) (now (p .exit)) ⌝ }
 {
     octets::put_byte(p, AlarmAt::CLEARED_AT, 1);
-    octets::put64(p, AlarmAt::CLEARED_AT + 1, t);
+    octets::put64(p, AlarmAt::CLEARED_AT + Slot::MARK, t);
 }
 
 pub fn set_text(p: &mut [u8], s: &[u8])
@@ -261,5 +201,5 @@ pub fn no_details(p: &mut [u8])
     requires { ⌜ length (now p) ≡ payloadWidth ⌝ }
     ensures { λ _. ⌜ Becomes (withDetails none) 932 (zeros 515) (now (p .entry)) (now (p .exit)) ⌝ }
 {
-    octets::put_zeros(p, AlarmAt::DETAILS, 3 + Record::DETAILS);
+    octets::put_zeros(p, AlarmAt::DETAILS, Slot::OPTIONAL_DETAILS);
 }

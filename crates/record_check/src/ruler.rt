@@ -2,8 +2,8 @@
 // in one loop whose number of turns is the room's and not the string's, so that LLVM takes many bytes at a time and
 // the processor predicts each turn.
 //
-// For that a ruler is laid along the room: 512 bytes of the highest bit alone, the width of the widest room, and then
-// 512 bytes of ones. The former end where the string ends: `and` with the ruler leaves the highest bits of the string,
+// For that a ruler is laid along the room: as many bytes of the highest bit alone as the widest room has, and then as
+// many bytes of ones. The former end where the string ends: `and` with the ruler leaves the highest bits of the string,
 // which ASCII has not, and all that stands behind it.
 ghost use mathlib.Core.Path.{_≡_};
 ghost use mathlib.Core.Bool.{_&&_};
@@ -12,6 +12,7 @@ ghost use lib.ListN.{length, take, drop};
 ghost use Rattle.octets.specs.Bytes.{blank};
 ghost use Rattle.utf8.specs.Meaning.{plain};
 ghost use Rattle.record_check.specs.Ruler.{rulerBytes, under};
+use model::Record;
 
 // Whether `and` with the ruler leaves nothing of the room.
 fn is_clear(room: &[u8], ruler: &[u8]) -> bool
@@ -32,7 +33,7 @@ pub(crate) fn is_plain(room: &[u8], ruler: &[u8], m: usize) -> bool
     requires { ⌜ (m ≤ length (now room)) × (length (now room) ≤ 512) × (now ruler ≡ rulerBytes) ⌝ }
     ensures { λ r. ⌜ r ≡ plain (take m (now (room .entry))) && blank (drop m (now (room .entry))) ⌝ }
 {
-    let a = 512 - m;
+    let a = Record::DETAILS - m;
     let e = a + room.len();
     is_clear(room, &ruler[a..e])
 }

@@ -21,7 +21,7 @@ use model::Record;
 use register::Ends;
 
 // The length of the ruler by which the rooms of strings are tested (record_check): twice the widest room.
-const RULER: usize = 1024;
+const RULER: usize = 2 * Record::DETAILS;
 
 // A byte's highest bit.
 const HIGH: u8 = 128;

@@ -14,4 +14,4 @@ returns : tie.Need-returns
 returns c = becomes 14 (withDetails none) (zeros 515) _ _ (omega arith) (length-zeros 515) (c .before .before .put-zeros .ensures) (λ a. refl)
 
 pub no-details-spec : {M : Type 1} → statement M
-no-details-spec = tie.close (tie.spec (λ c. search needs) (λ c κs. search needs) (λ c. search needs) returns)
+no-details-spec = tie.close (tie.spec (λ c κs. search needs) (λ c. search needs) returns)
