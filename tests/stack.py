@@ -1,18 +1,19 @@
 #!/usr/bin/env python3
-"""The stack: no opening and no call goes deeper than the 16 KiB that include/alarm_register.h asks for.
+"""The stack: no opening and no call goes deeper than include/alarm_register.h says.
 
 tests/stack.c measures; the lists here reach the deepest calls of every operation.
 """
 import functools
 import pathlib
 import random
+import re
 import shutil
 import subprocess
 import sys
 import tempfile
 
 from checklist import HERE, Skip, run
-from header import LIBRARY, WARNINGS
+from header import HEADER, LIBRARY, WARNINGS
 
 sys.path.insert(1, str(HERE / "compare"))
 import generate
@@ -21,23 +22,28 @@ from cases import mixed
 from orders import Open, Step, written
 from reading import LONGEST, NAMES, OPERATIONS
 
-LIMIT = 16384
+LIMIT = int(re.search(r"needs \d+ KiB \(([\d,]+) bytes\) of stack", (HERE / HEADER).read_text(encoding="utf-8")).group(1).replace(",", ""))
 PROGRAM = HERE / "tests/stack.c"
 OPENING, OTHER = 0, 13  # beside the operations 1 to 12
+PAIRS = "pairs of severity and cause"
 TITLES = {OPENING: "opening", **{op: f"{op} {name}" for op, (name, _) in OPERATIONS.items()}, OTHER: "calls without an operation"}
-MET = {(0, code) for code in range(1, 12)} | {(number, 0) for number in range(20, 32)}
+ANSWERS, REFUSALS = {(0, code) for code in range(1, 12)}, {(number, 0) for number in range(20, 32)}
 
 
 # ---- lists of calls
 
-def largest(text):
+def largest(text, cause):
     """Values of all fields, with each string as long as it may be; `text(n)` gives one of n bytes."""
     strings = {name: text(n) for name, n in LONGEST.items() if name in PLAIN}
-    causes = {"cause": b"other:" + b"\xe2\x80\x83" * 10 + b"a." * 15 + b"\xe2\x80\x83" * 10}
-    return strings | causes | {"object": (8, text(64), text(64), 65535), "scope": (0, text(64))}
+    return strings | {"cause": cause, "object": (8, text(64), text(64), 65535), "scope": (0, text(64))}
 
 
-FILLED = {"the longest strings": largest(lambda n: b"x" * n), "the longest strings, not ASCII": largest(mixed), "short strings": PLAIN}
+SPACES = "\u2003".encode() * 10
+FILLED = {
+    "the longest strings": largest(lambda n: b"x" * n, b"other:" + b"a." * 44 + b"bb"),
+    "the longest strings, not ASCII": largest(mixed, b"other:" + SPACES + b"a." * 14 + b"bb" + SPACES),
+    "short strings": PLAIN,
+}
 
 
 def day(values, events):
@@ -72,7 +78,7 @@ def lists():
     for name, values in FILLED.items():
         yield name, day(values, 2) + day(values, 99)
     for causes in ([b"lease-lost"], NAMES, [b"other:pair.%d" % i for i in range(1100)]):
-        yield f"pairs of severity and cause: {len(causes)}", many(causes)
+        yield f"{PAIRS}: {len(causes)}", many(causes)
     yield "calls, good and damaged", [order for orders in generate.every_call() for order in orders]
     rng = random.Random("stack")
     yield "lists by chance", [order for _ in range(20) for order in generate.fresh(rng, 100)]
@@ -136,10 +142,13 @@ def within(operation):
 
 
 def met(root):
-    """The calls meet every answer, and every refusal that can be met."""
-    given = {(number, code) for calls in measured(root).values() for _, _, number, code in calls}
-    for outcome in sorted(MET - given):
-        yield f"no call is {said(*outcome)}"
+    """The calls meet every refusal that can be met, and every answer with long strings and with short ones; none on many pairs is refused."""
+    calls = [call for calls in measured(root).values() for call in calls]
+    for title in [None, *FILLED]:
+        given = {(number, code) for _, name, number, code in calls if title in (None, name)}
+        for outcome in sorted((ANSWERS if title else REFUSALS) - given):
+            yield f"{title or 'all lists'}: no call is {said(*outcome)}"
+    yield from (f"{name}: a call is refused with {number}" for _, name, number, _ in calls if number and name.startswith(PAIRS))
 
 
 CHECKS = {title: within(operation) for operation, title in TITLES.items()} | {"every answer and every refusal is met": met}
