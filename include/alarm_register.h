@@ -6,6 +6,10 @@
  * 1970 UTC in 8 bytes. The library allocates nothing, keeps nothing between calls, reads no clock and calls nothing
  * back. Two calls on one register must not run at the same time; calls on different registers may.
  *
+ * A call needs 16 KiB (16,384 bytes) of stack, beside what the thread itself takes. It uses memcpy and memset of the C
+ * library: where the dynamic linker binds these only at their first call (lazily, without -z now), that call needs some
+ * 3 KiB more.
+ *
  * docs/LAYOUT.md explains each byte of a register. Link with libstation.a, which `make lib` puts into target/staticlib.
  */
 #ifndef ALARM_REGISTER_H

@@ -18,7 +18,7 @@ CONTRACTS = "crates/definition/specs/Contracts/Does.antt"
 CODE, SPECS, LAWS = "crates/octets/src/lib.rt", "crates/octets/specs/Bytes.antt", "crates/octets/specs/BoolLaws.antt"
 VECTORS = "crates/sha256_vectors/stdout"
 JSON, PAGE, CLAIMS, ARCHITECTURE = "docs/layout.json", "docs/LAYOUT.md", "docs/CLAIMS.md", "docs/ARCHITECTURE.md"
-HEADER, WRONG = "include/alarm_register.h", "tests/wrong/octets.txt"
+HEADER, WRONG, TRUST = "include/alarm_register.h", "tests/wrong/octets.txt", "docs/TRUST.md"
 
 # For each check: what is damaged, in which file, the pattern, and what takes its place.
 DAMAGES = {
@@ -143,6 +143,20 @@ DAMAGES = {
     (pages, "paths in documents are there"): [
         ("a path to nothing", "README.md", r"\Z", "See docs/NOWHERE.md.\n"),
         ("a law that is nowhere", ARCHITECTURE, r"\Z", "See `Laws/Text/Nowhere.antt`.\n"),
+    ],
+    (pages, "TRUST lists the definition, with its lines"): [
+        ("a definition that has grown", LIMITS, r"\Z", "-- more\n"),
+        ("a file left out", TRUST, r"^\| `Mask.antt` .*\n", ""),
+        ("a file that is cited and left out", TRUST, r"^\| `crates/octets/specs/Pack.antt` .*\n", ""),
+        ("a sum", TRUST, r"^\| all \| \d,", "| all | 9,"),
+    ],
+    (pages, "TRUST names the toolchain"): [
+        ("another toolchain", TRUST, r"^    rattle-", "    prattle-"),
+        ("another logic", TRUST, r"sum=\w+", "sum=0"),
+    ],
+    (pages, "TRUST's edits are must-fail edits"): [
+        ("another edit on the page", TRUST, r"`w\[t - 14\]`", "`w[t - 13]`"),
+        ("another must-fail edit", "crates/sha256/must-fail/schedule.edit", r"t - 14", "t - 13"),
     ],
     (repository, "vectors are Python's"): [
         ("a digest", VECTORS, r"^e3b0c44298fc1c14", "e3b0c44298fc1c15"),

@@ -1,10 +1,12 @@
 #!/usr/bin/env python3
-"""The pages say what is there: crates, functions, definitions, wrong answers, paths."""
+"""The pages say what is there: crates, functions, definitions, wrong answers, paths, what must be believed."""
 import re
+import shutil
+import subprocess
 import sys
 
 import wrong_page
-from checklist import run
+from checklist import Skip, run
 from repository import functions, levels, line, texts
 
 DOCUMENTS = ["README.md", "NOTICE", "docs/*.md"]
@@ -126,6 +128,55 @@ def paths(root):
                 yield f"{path}:{line(text, found.start())}: {name} is not there"
 
 
+# ---- docs/TRUST.md
+
+TRUST, DEFINITION = "docs/TRUST.md", "crates/definition/specs"
+
+
+def believed(root):
+    """The table of what has to be read has the definition's files in Lib.antt's order, whatever these cite, and the lines of each."""
+    text = (root / TRUST).read_text(encoding="utf-8")
+    rows = {name if "/" in name else f"{DEFINITION}/{name}": int(lines) for name, lines in re.findall(r"^\| `([\w/]+\.antt)` \| (\d+) \|", text, re.M)}
+    parts = re.findall(r"^pub mod (\w+)", (root / DEFINITION / "Lib.antt").read_text(encoding="utf-8"), re.M)
+    wanted = [f"{DEFINITION}/{part}.antt" for part in parts if part not in ("Laws", "Contracts")]
+    if [path for path in rows if path.startswith(DEFINITION)] != wanted:
+        yield f"{TRUST} does not list the files of {DEFINITION} as Lib.antt does"
+    for path, lines in rows.items():
+        file = (root / path).read_text(encoding="utf-8")
+        if file.count("\n") != lines:
+            yield f"{TRUST}: {path} has {file.count(chr(10))} lines, and not {lines}"
+        for crate, cited in re.findall(r"\buse Rattle·(\w+)(?:·specs)?\.specs\.(\w+(?:\.\w+)*)", file):
+            if f"crates/{crate}/specs/{cited.replace('.', '/')}.antt" not in rows:
+                yield f"{TRUST} does not list {cited} of {crate}, which {path} cites"
+    if f"| all | {sum(rows.values()):,} |" not in text:
+        yield f"{TRUST}: all lines are {sum(rows.values()):,}"
+
+
+def toolchain(root):
+    """The page names the toolchain that proves: what `rt version` prints, and the number of its logic."""
+    if not shutil.which("rt"):
+        raise Skip("rt is not on this machine")
+    text = (root / TRUST).read_text(encoding="utf-8")
+    version = subprocess.run(["rt", "version"], stdout=subprocess.PIPE, text=True, check=True).stdout.strip()
+    if f"    $ rt version\n    {version}\n" not in text:
+        yield f"{TRUST} has another toolchain than {version}"
+    for number in re.findall(r"sum=(\w+)", text):
+        if number != version.split()[-1]:
+            yield f"{TRUST}: sum={number}, and the toolchain's logic is {version.split()[-1]}"
+
+
+def sceptic(root):
+    """The three edits for a sceptic are must-fail edits, so that each run of rt ci tries them."""
+    text = (root / TRUST).read_text(encoding="utf-8")
+    rows = re.findall(r"^\| `crates/(\w+)/(\S+)` \| `([^|]+)` \| `([^|]+)` \| `rt dev (\w+)` \|", text, re.M)
+    if len(rows) != 3:
+        yield f"{TRUST} has {len(rows)} edits"
+    for crate, file, old, new, command in rows:
+        edits = [dict(re.findall(r"^(file|old|new): +(.*)", edit, re.M)) for _, edit in texts(root, f"crates/{crate}/must-fail/*.edit")]
+        if crate != command or {"file": file, "old": old, "new": new} not in edits:
+            yield f"{TRUST}: {old}: crates/{crate}/must-fail has no such edit"
+
+
 CHECKS = {
     "ARCHITECTURE lists the crates by level": architecture,
     "ARCHITECTURE follows a raise": raised,
@@ -133,6 +184,9 @@ CHECKS = {
     "the page of wrong answers is theirs": page,
     "sentences have their definitions": sentences,
     "paths in documents are there": paths,
+    "TRUST lists the definition, with its lines": believed,
+    "TRUST names the toolchain": toolchain,
+    "TRUST's edits are must-fail edits": sceptic,
 }
 
 if __name__ == "__main__":
