@@ -1,40 +1,37 @@
--- The bytes at a place: none are asked for, too few are there, or they are there.
-use Prim.Native.Nat.{ℕ, _+_, _≤_, _<_, _^_}
-use mathlib.Core.Path.{_≡_, refl}
+-- The bytes at the start of a part: too few are there, or they are there.
+use Prim.Native.Nat.{ℕ, _≤_, _<_, _^_}
+use mathlib.Core.Path.{_≡_, refl, ap, _∙_}
 use mathlib.Core.Bool.{Bool, true, false}
 use native.Mathlib.Nat.{lt-of-lt-of-le, pow-le-pow-right}
 use native.Mathlib.Omega.{arith}
 use borrow.Author.Tests.{le-leb, lt-leb, leb-true}
 use lib.Dec.{leb}
-use lib.ListN.{length, take, drop, length-drop, length-take}
-use lib.Seq.{drop-drop}
+use lib.ListN.{length, take}
 use Rattle.octets.specs.Bytes.{Bytes}
+use Rattle.octets.specs.PartLaws.{part-rest}
 use Rattle.definition.specs.Reader.{bytes}
-use Rattle.model.specs.Meaning.{part, within}
+use Rattle.model.specs.Meaning.{within}
 use Rattle.model.specs.declared.Span.{Span}
-use Rattle.fields.specs.Cursor.{Reads, refusedUnless, bytesFrom}
+use Rattle.fields.specs.Cursor.{refusedUnless, bytesFrom}
+use Rattle.fields.specs.Part.{Takes}
+use Rattle.fields.specs.Moved.{Starts}
+use Rattle.fields.specs.MovedLaws.{lent}
 use Rattle.fields.specs.declared.Cursor.{Cursor}
 use Rattle.fields.specs.declared.Cursor.the-variants.{At, Fault}
 
-module _ (call : Bytes) (i : ℕ) where
-  pub none-read : Reads call (At i) (bytes 0) (take 0 (drop 0 call)) (At i)
+module _ {left : Bytes} {n : ℕ} where
+  pub short-taken : {v : Bytes} → length left < n → Takes left (bytes n) v (Fault 24)
   unfolding bytes
-  none-read = record { out = rw (le-leb 0 (length (drop i call)) (omega arith)) }
+  short-taken h = record { out = rw (lt-leb n (length left) h); ends = omega arith }
 
-  pub short-read : (n : ℕ) (v : Bytes) → length call < i + n → 0 < n → Reads call (At i) (bytes n) v (Fault 24)
+  pub bytes-taken : n ≤ length left → Takes left (bytes n) (take n left) (At n)
   unfolding bytes
-  short-read n v h p = record { out = rw (lt-leb n (length (drop i call)) (omega (arith, length-drop i call))) }
+  bytes-taken h = record { out = rw (le-leb n (length left) h); ends = h }
 
-  pub bytes-read : (n : ℕ) → i + n ≤ length call → Reads call (At i) (bytes n) (take n (drop i call)) (At (i + n))
-  unfolding bytes
-  bytes-read n h = record { out = rw (le-leb n (length (drop i call)) (omega (arith, length-drop i call)), drop-drop n i call) }
-
-bytes-from-le : (q : Cursor) (n : ℕ) → bytesFrom q n ≤ n
-bytes-from-le (At i) n = omega arith
-bytes-from-le (Fault k) n = omega arith
-
-pub part-small : (call : Bytes) (p : Span) (q : Cursor) (n : ℕ) → within call (bytesFrom q n) p → length (part call p) ≤ n
-part-small call p q n w = rw (length-take) (omega (arith, bytes-from-le q n))
+-- of what is left after a fault no bytes are taken
+pub bytes-from : {call : Bytes} {at : Cursor} {i n : ℕ} (p : Span) → Starts call at i → within (lent call i) n p → p .len ≤ bytesFrom at n
+bytes-from {at = At j} p s w = w .1
+bytes-from {call} {at = Fault k} {i = i} p s w = omega (arith, ap length (part-rest call i ∙ s .left))
 
 pub below-power : {v m n : ℕ} → m ≤ n → v < 256 ^ m → v < 256 ^ n
 below-power h k = lt-of-lt-of-le k (pow-le-pow-right {n = 256} (omega arith) h)

@@ -5,16 +5,12 @@ use mathlib.Core.Bool.{Bool, cond}
 use mathlib.Core.Option.{Option}
 use lib.ListN.{drop}
 use Rattle.octets.specs.Bytes.{Bytes}
-use Rattle.definition.specs.Limits.{causeLimit}
-use Rattle.definition.specs.Cause.{causeOf}
-use Rattle.definition.specs.Reader.{Out, got, bad, Reader, causeIs}
-use Rattle.model.specs.Meaning.{part, optPart, causePart, within, optWithin, causeWithin}
-use Rattle.model.specs.declared.Span.{Span}
+use Rattle.definition.specs.Reader.{Out, got, bad, Reader}
+use Rattle.model.specs.Meaning.{part, optPart, within, optWithin}
 use Rattle.fields.specs.declared.Cursor.{Cursor}
 use Rattle.fields.specs.declared.Cursor.the-variants.{At, Fault}
 use Rattle.fields.specs.declared.SpanRead.{SpanRead}
 use Rattle.fields.specs.declared.OptSpanRead.{OptSpanRead}
-use Rattle.fields.specs.declared.CauseRead.{CauseRead}
 
 module _ {A : Type 0} where
   -- a value, and what is left after it
@@ -53,15 +49,7 @@ refused (Fault k) n = Fault k
 unfoldable pub refusedUnless : Cursor → Bool → ℕ → Cursor
 refusedUnless at ok n = cond ok at (refused at n)
 
-abbrev pub noBytes : Cursor → SpanRead
-noBytes q = record { span = record { at = 0; len = 0 }; next = q }
-
 -- n bytes at a place, none at a fault
 abbrev pub bytesFrom : Cursor → ℕ → ℕ
 bytesFrom (At i) n = n
 bytesFrom (Fault k) n = 0
-
--- the bytes of a part, which starts at a place of the call, are a cause: what is answered means it; or they are none
-pub record IsCause (lent : Bytes) (at : ℕ) (next : Cursor) (r : CauseRead) : Type 0 where
-  pub reads : (call : Bytes) (p : Span) → lent ≡ part call p → p .at ≡ at → Reads call next (causeIs (causeOf lent)) (causePart call (r .cause)) (r .next)
-  pub fits : (call : Bytes) (p : Span) → lent ≡ part call p → p .at ≡ at → within call causeLimit p → causeWithin call (r .cause)

@@ -1,5 +1,9 @@
 pub mod Cursor
 pub mod CursorLaws
+pub mod Part
+pub mod PartLaws
+pub mod Moved
+pub mod MovedLaws
 pub mod BytesLaws
 pub mod StringKind
 pub mod StringKindLaws

@@ -1,34 +1,43 @@
 // The fields of a call: numbers, choices, strings, options and causes, read one behind the other from its bytes.
 //
-// A reader is told where the reading stands, at a place or at the call's first fault, and answers a value with where it stands then. A
-// fault is handed on, so that readers follow one another without a test between them, and the first fault wins. Nothing is copied: a
-// string is a span, its place and its length in the call.
+// Each field has two functions. `read_number` and its like (src/part.rt) receive a part of the call, what is left of it, and read the field
+// at the part's start: no place of the call comes into it. `number_at` and its like keep the places. They are told where the reading of the
+// call stands, at a place or at its first fault; they lend what is left from there to the reader of the part, and carry its answer over to
+// the call's places. A fault is handed on, so that fields follow one another without a test between them, and the first fault wins.
 //
-// Each contract says that the reader does what the definition's reader of the same name does (Reader.antt), and that a span lies in the
-// call, within its limit: who looks at its bytes later tests nothing. `Says` in specs/Cursor.antt is that promise, and
-// specs/CursorLaws.antt has the laws by which the readers of a row of fields are proved: `step`, `tested`, `done`.
-use cause::Cause;
+// Nothing is copied: a string is a span, its place and its length. Each contract says that the function does what the definition's reader of
+// the same name does (Reader.antt), and that a span lies in what was lent, within its limit: who looks at its bytes later tests nothing.
+// `Takes` in specs/Part.antt is that promise on a part's bytes, `Says` in specs/Cursor.antt on a call's. specs/CursorLaws.antt has the laws by
+// which the readers of a row of fields are proved: `step`, `tested`, `done`; specs/PartLaws.antt those that carry an answer over.
 use model::CauseSpan;
 use model::OptSpan;
-use model::Record;
 use model::Span;
 ghost use mathlib.Core.Path.{_≡_};
-ghost use mathlib.Core.Bool.{_&&_};
 ghost use Prim.Native.Nat.{_+_, _^_, _≤_, _<_};
-ghost use lib.Dec.{leb};
 ghost use lib.ListN.{length};
-ghost use Rattle.definition.specs.Reader.{bytes, number, choice, blob, text, optional, causeText};
+ghost use Rattle.definition.specs.Reader.{bytes, number, choice, text, optional, causeText};
 ghost use Rattle.model.specs.Meaning.{causePart, causeWithin};
-ghost use Rattle.fields.specs.Cursor.{refusedUnless, noBytes, bytesFrom, Reads, Says, SaysString, SaysOption, IsCause};
-ghost use Rattle.fields.specs.StringKind.{obeyed, stringBy};
+ghost use Rattle.fields.specs.Cursor.{refusedUnless, bytesFrom, Reads, Says, SaysString, SaysOption};
+ghost use Rattle.fields.specs.Part.{reached};
+ghost use Rattle.fields.specs.Moved.{Starts, cursorOn, spanOn, optionOn, optionStart, causeOn, causeStart};
+ghost use Rattle.fields.specs.StringKind.{stringBy};
 
-// Where the reading of a call stands: at a place, or at its first fault, by its number.
+mod part;
+
+pub use part::read_cause;
+pub use part::read_choice;
+pub use part::read_number;
+pub use part::read_option;
+pub use part::read_text;
+
+// Where the reading of a slice stands: at a place, or at its first fault, by its number.
 pub enum Cursor {
     At(usize),
     Fault(u8),
 }
 
-// What a reader answers: a value, and where the reading stands after it; the value means something where that is a place.
+// What a reader answers: a value, and where the reading stands after it; the value means something where that is a place. Places count
+// from the start of the slice that the reader received.
 pub struct NumRead {
     pub value: u64,
     pub next: Cursor,
@@ -73,111 +82,124 @@ pub fn refuse_unless(at: Cursor, ok: bool, number: u8) -> Cursor
     }
 }
 
-// ---- bytes
+// ---- a part of the call: where it starts, and what was read of it in the call's places
 
-fn no_bytes(next: Cursor) -> SpanRead
-    ensures { λ r. ⌜ r ≡ noBytes next ⌝ }
-{
-    SpanRead {
-        span: Span { at: 0, len: 0 },
-        next: next,
-    }
-}
-
-// The next n bytes.
-fn bytes_at(call: &[u8], at: Cursor, n: usize) -> SpanRead
-    ensures { λ r. ⌜ SaysString (now (call .entry)) at (bytes n) (bytesFrom at n) r ⌝ }
+// Where reading goes on. After a fault, as past the end, nothing is left.
+fn start(call: &[u8], at: Cursor) -> usize
+    ensures { λ r. ⌜ Starts (now (call .entry)) at r ⌝ }
 {
     match at {
-        Cursor::Fault(k) => no_bytes(Cursor::Fault(k)),
         Cursor::At(i) => {
-            if n == 0 {
-                return no_bytes(Cursor::At(i));
+            if i < call.len() {
+                return i;
             }
-            if call.len() < i {
-                return no_bytes(Cursor::Fault(24));
-            }
-            if call.len() - i < n {
-                return no_bytes(Cursor::Fault(24));
-            }
-            SpanRead {
-                span: Span { at: i, len: n },
-                next: Cursor::At(i + n),
-            }
+            call.len()
         }
+        Cursor::Fault(_) => call.len(),
     }
 }
 
-// ---- numbers
+// Where the reading stands that was at `at`, and in the part from i on is at `next`.
+fn cursor_on(at: Cursor, i: usize, next: Cursor) -> Cursor
+    requires { ⌜ i + reached next < 2 ^ 64 ⌝ }
+    ensures { λ r. ⌜ r ≡ cursorOn at i next ⌝ }
+{
+    match at {
+        Cursor::Fault(k) => Cursor::Fault(k),
+        Cursor::At(_) => match next {
+            Cursor::Fault(k) => Cursor::Fault(k),
+            Cursor::At(n) => Cursor::At(i + n),
+        },
+    }
+}
+
+// A span of the part from i on, in the places of the whole.
+fn span_on(p: Span, i: usize) -> Span
+    requires { ⌜ i + p .at < 2 ^ 64 ⌝ }
+    ensures { λ r. ⌜ r ≡ spanOn i p ⌝ }
+{
+    Span {
+        at: i + p.at,
+        len: p.len,
+    }
+}
+
+fn option_on(p: OptSpan, i: usize) -> OptSpan
+    requires { ⌜ i + optionStart p < 2 ^ 64 ⌝ }
+    ensures { λ r. ⌜ r ≡ optionOn i p ⌝ }
+{
+    match p {
+        OptSpan::Absent => OptSpan::Absent,
+        OptSpan::Present(q) => OptSpan::Present(span_on(q, i)),
+    }
+}
+
+fn cause_on(p: CauseSpan, i: usize) -> CauseSpan
+    requires { ⌜ i + causeStart p < 2 ^ 64 ⌝ }
+    ensures { λ r. ⌜ r ≡ causeOn i p ⌝ }
+{
+    match p {
+        CauseSpan::Name(k) => CauseSpan::Name(k),
+        CauseSpan::Other(q) => CauseSpan::Other(span_on(q, i)),
+    }
+}
+
+// ---- fields on from a place of the call
+
+// The next n bytes.
+pub(crate) fn bytes_at(call: &[u8], at: Cursor, n: usize) -> SpanRead
+    ensures { λ r. ⌜ SaysString (now (call .entry)) at (bytes n) (bytesFrom at n) r ⌝ }
+    ensures { λ r. ⌜ reached (r .next) ≤ length (now (call .entry)) ⌝ }
+{
+    let i = start(call, at);
+    let r = part::read_bytes(&call[i..], n);
+    let p = r.span;
+    let next = r.next;
+    SpanRead {
+        span: span_on(p, i),
+        next: cursor_on(at, i, next),
+    }
+}
 
 // A number of n bytes.
 pub fn number_at(call: &[u8], at: Cursor, n: usize) -> NumRead
     requires { ⌜ n ≤ 8 ⌝ }
     ensures { λ r. ⌜ Reads (now (call .entry)) at (number n) (r .value) (r .next) × (r .value < 256 ^ n) ⌝ }
 {
-    let b = bytes_at(call, at, n);
-    let p = b.span;
-    let next = b.next;
+    let i = start(call, at);
+    let r = read_number(&call[i..], n);
+    let next = r.next;
     NumRead {
-        value: octets::number(model::part(call, p)),
-        next: next,
+        value: r.value,
+        next: cursor_on(at, i, next),
     }
-}
-
-fn among(v: u8, lo: u8, hi: u8) -> bool
-    ensures { λ r. ⌜ r ≡ leb lo v && leb v hi ⌝ }
-{
-    if v < lo {
-        return false;
-    }
-    v <= hi
 }
 
 // A byte from lo to hi.
 pub fn choice_at(call: &[u8], at: Cursor, lo: u8, hi: u8) -> ByteRead
     ensures { λ r. ⌜ Reads (now (call .entry)) at (choice lo hi) (r .value) (r .next) ⌝ }
 {
-    let b = number_at(call, at, 1);
-    let v = b.value as u8;
-    let next = b.next;
+    let i = start(call, at);
+    let r = read_choice(&call[i..], lo, hi);
+    let next = r.next;
     ByteRead {
-        value: v,
-        next: refuse_unless(next, among(v, lo, hi), 25),
-    }
-}
-
-// ---- strings
-
-// A string, its bytes as they stand. The limit is tested before the bytes are looked for.
-fn blob_at(call: &[u8], at: Cursor, limit: usize) -> SpanRead
-    ensures { λ r. ⌜ SaysString (now (call .entry)) at (blob limit) limit r ⌝ }
-{
-    let n = number_at(call, at, 4);
-    let len = n.value as usize;
-    let next = n.next;
-    bytes_at(call, refuse_unless(next, len <= limit, 26), len)
-}
-
-// Whether a string of this kind may have these bytes.
-fn obeys(part: &[u8], kind: StringKind) -> bool
-    ensures { λ r. ⌜ r ≡ obeyed kind (now (part .entry)) ⌝ }
-{
-    match kind {
-        StringKind::Text => utf8::is_utf8(part),
-        StringKind::Blob => true,
+        value: r.value,
+        next: cursor_on(at, i, next),
     }
 }
 
 // A string by its kind.
-fn string_at(call: &[u8], at: Cursor, limit: usize, kind: StringKind) -> SpanRead
+pub(crate) fn string_at(call: &[u8], at: Cursor, limit: usize, kind: StringKind) -> SpanRead
     ensures { λ r. ⌜ SaysString (now (call .entry)) at (stringBy kind limit) limit r ⌝ }
+    ensures { λ r. ⌜ reached (r .next) ≤ length (now (call .entry)) ⌝ }
 {
-    let b = blob_at(call, at, limit);
-    let p = b.span;
-    let next = b.next;
+    let i = start(call, at);
+    let r = part::read_string(&call[i..], limit, kind);
+    let p = r.span;
+    let next = r.next;
     SpanRead {
-        span: p,
-        next: refuse_unless(next, obeys(model::part(call, p), kind), 27),
+        span: span_on(p, i),
+        next: cursor_on(at, i, next),
     }
 }
 
@@ -192,41 +214,13 @@ pub fn text_at(call: &[u8], at: Cursor, limit: usize) -> SpanRead
 pub fn option_at(call: &[u8], at: Cursor, limit: usize, kind: StringKind) -> OptSpanRead
     ensures { λ r. ⌜ SaysOption (now (call .entry)) at (optional (stringBy kind limit)) limit r ⌝ }
 {
-    let b = choice_at(call, at, 0, 1);
-    let next = b.next;
-    if b.value == 0 {
-        return OptSpanRead {
-            span: OptSpan::Absent,
-            next: next,
-        };
-    }
-    let t = string_at(call, next, limit, kind);
-    let p = t.span;
-    let end = t.next;
+    let i = start(call, at);
+    let r = read_option(&call[i..], limit, kind);
+    let p = r.span;
+    let next = r.next;
     OptSpanRead {
-        span: OptSpan::Present(p),
-        next: end,
-    }
-}
-
-// The cause that a part of the call is; the part starts at a place of the call.
-fn read_cause(lent: &[u8], at: usize, next: Cursor) -> CauseRead
-    requires { ⌜ at + length (now lent) < 2 ^ 64 ⌝ }
-    ensures { λ r. ⌜ IsCause (now (lent .entry)) at next r ⌝ }
-{
-    match cause::cause_of(lent) {
-        Cause::Name(k) => CauseRead {
-            cause: CauseSpan::Name(k),
-            next: next,
-        },
-        Cause::Other { at: x, len: n } => CauseRead {
-            cause: CauseSpan::Other(Span { at: at + x, len: n }),
-            next: next,
-        },
-        Cause::No => CauseRead {
-            cause: CauseSpan::Name(0),
-            next: refuse_unless(next, false, 28),
-        },
+        span: option_on(p, i),
+        next: cursor_on(at, i, next),
     }
 }
 
@@ -234,8 +228,12 @@ fn read_cause(lent: &[u8], at: usize, next: Cursor) -> CauseRead
 pub fn cause_at(call: &[u8], at: Cursor) -> CauseRead
     ensures { λ r. ⌜ Says (now (call .entry)) at causeText causePart causeWithin (r .cause) (r .next) ⌝ }
 {
-    let t = text_at(call, at, Record::CAUSE);
-    let p = t.span;
-    let next = t.next;
-    read_cause(model::part(call, p), p.at, next)
+    let i = start(call, at);
+    let r = read_cause(&call[i..]);
+    let p = r.cause;
+    let next = r.next;
+    CauseRead {
+        cause: cause_on(p, i),
+        next: cursor_on(at, i, next),
+    }
 }

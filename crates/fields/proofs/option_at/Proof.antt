@@ -1,20 +1,29 @@
--- `option_at` meets its contract: byte 0, or byte 1 and the string.
-use borrow.Author.Tests.{eq-eqb, ne-eqb}
-use Rattle.definition.specs.Reader.{optional}
-use Rattle.fields.specs.CursorLaws.{done, step}
+-- `option_at` meets its contract: what is read of the part, carried over.
+use native.Mathlib.Omega.{arith}
+use Rattle.fields.specs.MovedLaws.{option-moves, option-starts, says-carried}
 use borrow.Author.Needs.{needs}
 use Rattle.fields.proofs.option_at.Statement.{statement}
 use Rattle.fields.proofs.option_at.Tie as tie
 
-returns : tie.Need-returns
-unfolding optional
-returns c = (step _ (c .before .before .choice-at .ensures) (rw (eq-eqb _ _ (c .if1 .taken)) done), tt)
+option-on-requires : tie.Need-option-on-requires
+option-on-requires c κs = omega (arith, option-starts _ _ (c .read-option .result .span) (c .read-option .ensures .1))
 
-returns-2 : tie.Need-returns-2
-unfolding optional
-returns-2 c =
-    let t = c .before .string-at .ensures in
-    (step _ (c .before .before .before .before .choice-at .ensures) (rw (ne-eqb _ _ (c .before .before .if1 .left)) (step _ (t .0) done)), t .1)
+returns : tie.Need-returns
+returns c =
+    let s = c .before .before .before .before .start .ensures in
+    let r = c .before .before .read-option in
+    rw (c .cursor-on .ensures, c .before .option-on .ensures)
+    (says-carried s (option-moves _) (r .result .span) (r .ensures))
 
 pub option-at-spec : {M : Type 1} → statement M
-option-at-spec = tie.close (tie.spec (λ c κs. search needs) returns (λ c κs. search needs) returns-2)
+option-at-spec =
+    tie.close
+    (tie.spec
+    (λ c κs. search needs)
+    (λ c. search needs)
+    (λ c. search needs)
+    (λ c. search needs)
+    (λ c κs. search needs)
+    option-on-requires
+    (λ c κs. search needs)
+    returns)

@@ -1,7 +1,7 @@
 -- `obeys` meets its contract: UTF-8, or any bytes.
 use borrow.Author.Needs.{needs}
-use Rattle.fields.proofs.obeys.Statement.{statement}
-use Rattle.fields.proofs.obeys.Tie as tie
+use Rattle.fields.proofs.part.obeys.Statement.{statement}
+use Rattle.fields.proofs.part.obeys.Tie as tie
 
 returns : tie.Need-returns
 returns c = rw (c .before .enum-told .given .1) (c .is-utf8 .ensures)

@@ -1,7 +1,7 @@
 -- `among` meets its contract: below lo, or what hi says.
 use borrow.Author.Tests.{le-leb, lt-leb}
-use Rattle.fields.proofs.among.Statement.{statement}
-use Rattle.fields.proofs.among.Tie as tie
+use Rattle.fields.proofs.part.among.Statement.{statement}
+use Rattle.fields.proofs.part.among.Tie as tie
 
 returns : tie.Need-returns
 returns c = rw (lt-leb _ _ (c .if1 .taken))
