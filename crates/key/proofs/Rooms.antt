@@ -52,25 +52,72 @@ byte-put r e = record { next = refl; fits = omega (arith, r .width, r .fits); by
 
 -- ---- the most that each field takes
 
-string-most : (s : Bytes) (n : ℕ) → length s ≤ n → length (string s) ≤ stringMost n
-string-most s n h = omega (arith, length-string s)
+record Most (v : Bytes) (n : ℕ) : Type 0 where
+  most : length v ≤ n
 
--- a tag and one string, or two
-single-most : (t a : Bytes) → length t ≤ tagMost → length a ≤ shortLimit → length (taggedOne t a) ≤ stringMost tagMost + stringMost shortLimit
-single-most t a h w = omega (arith, length-append (string t) (string a), string-most t tagMost h, string-most a shortLimit w)
+both : {u v : Bytes} {m n : ℕ} → Most u m → Most v n → Most (u ++ v) (m + n)
+both {u} {v} p q = record { most = omega (arith, p .most, q .most, length-append u v) }
 
-pair-most :
-    (t a b : Bytes) → length t ≤ tagMost → length a ≤ shortLimit → length b ≤ shortLimit →
-    length (taggedTwo t a b) ≤ stringMost tagMost + (stringMost shortLimit + stringMost shortLimit)
-pair-most t a b h w v = omega (arith, length-append (taggedOne t a) (string b), single-most t a h w, string-most b shortLimit v)
+string-most : (s : Bytes) (n : ℕ) → length s ≤ n → Most (string s) (stringMost n)
+string-most s n h = record { most = omega (arith, length-string s) }
+
+-- of the same bytes in other words, within a wider bound
+most-as : {u v : Bytes} {m n : ℕ} → u ≡ v → m ≤ n → Most u m → Most v n
+most-as e h p = record { most = omega (arith, p .most, ap length e) }
 
 module _ (call : Bytes) where
-  part-most : (n : ℕ) (p : Span) → within call n p → length (part call p) ≤ n
-  part-most n p w = part-short call n p refl w
+  part-most : (n : ℕ) (p : Span) → within call n p → Most (string (part call p)) (stringMost n)
+  part-most n p w = string-most (part call p) n (part-short call n p refl w)
 
-  option-most : (n : ℕ) (p : OptSpan) → optWithin call n p → length (optional (optPart call p)) ≤ optionMost n
-  option-most n Absent w = omega arith
-  option-most n (Present p) w = omega (arith, string-most (part call p) n (part-most n p w))
+  option-most : (n : ℕ) (p : OptSpan) → optWithin call n p → Most (optional (optPart call p)) (optionMost n)
+  option-most n Absent w = record { most = omega arith }
+  option-most n (Present p) w = both {u = 1 ∷ []} (record { most = lit≤ tt }) (part-most n p w)
+
+  module _ (t : Bytes) (h : length t ≤ tagMost) (a : Span) where
+    single-most : within call shortLimit a → Most (taggedOne t (part call a)) (stringMost tagMost + stringMost shortLimit)
+    single-most w = both (string-most t tagMost h) (part-most shortLimit a w)
+
+    pair-most :
+        (b : Span) → within call shortLimit a × within call shortLimit b →
+        Most (taggedTwo t (part call a) (part call b)) (stringMost tagMost + stringMost shortLimit + stringMost shortLimit)
+    pair-most b w = both (single-most (w .0)) (part-most shortLimit b (w .1))
+
+    one-string : within call shortLimit a → Most (string t ++ (strings (part call a ∷ []) ++ [])) objectMost
+    one-string w = most-as (single-fed t refl) (lit≤ tt) (single-most w)
+
+    two-strings : (b : Span) → within call shortLimit a × within call shortLimit b → Most (string t ++ (strings (part call a ∷ part call b ∷ []) ++ [])) objectMost
+    two-strings b w = most-as (pair-fed t refl refl) (lit≤ tt) (pair-most b w)
+
+  object-most : (o : AffectedObject) → objectWithin call o → Most (fedObject (objectValue call o)) objectMost
+  unfolding fedObject parts
+  object-most (O.NfInstance a b) w = two-strings (ascii "NfInstance") (lit≤ tt) a b w
+  object-most (O.Interface a b) w = two-strings (ascii "Interface") (lit≤ tt) a b w
+  object-most (O.Peer a b) w = two-strings (ascii "Peer") (lit≤ tt) a b w
+  object-most (O.SessionStore a h) w =
+      most-as (store-fed call {a = a} {h = h} refl refl) (lit≤ tt) (both (single-most (ascii "SessionStore") (lit≤ tt) a (w .0)) (option-most shortLimit h (w .1)))
+  object-most (O.Slice a) w = one-string (ascii "Slice") (lit≤ tt) a w
+  object-most (O.Tenant a) w = one-string (ascii "Tenant") (lit≤ tt) a w
+  object-most (O.Certificate a) w = one-string (ascii "Certificate") (lit≤ tt) a w
+  object-most (O.DataPlaneQueue a b q) w =
+      most-as (queue-fed (part call a) (part call b) q) (lit≤ tt) (both (pair-most (ascii "DataPlaneQueue") (lit≤ tt) a b w) (string-most (decimal q) queueMost (length-decimal q)))
+
+  places-most : (p : Places) → PlacesWithin call p → Most (fedPlaces (placesValue call p)) placesMost
+  unfolding fedPlaces
+  places-most p w =
+      most-as refl (lit≤ tt)
+      (both (option-most shortLimit (p .tenant) (w .tenant)) (both (option-most shortLimit (p .slice) (w .slice)) (option-most regionLimit (p .region) (w .region))))
+
+  -- there is room for all that is hashed
+  pub fed-room :
+      {b : Bytes} (p : Span) (k : KeyFields) → length b ≡ hashedWidth → within call shortLimit p → KeyWithin call k →
+      Room b 0 (fed (part call p) (keyValue call k))
+  unfolding fed
+  fed-room p k l w v =
+      let behind-cause = both (object-most (k .object) (v .object)) (places-most (k .places) (v .places)) in
+      let behind-type = both (string-most (causePart call (k .cause)) causeLimit (stored-length call (k .cause) (v .cause))) behind-cause in
+      record { width = l; fits = omega (arith, both (part-most shortLimit p w) behind-type .most) }
+
+  -- ---- an option within the limit of tenant and slice is within that of a region
 
   pub option-wider : (p : OptSpan) → optWithin call shortLimit p → optWithin call regionLimit p
   option-wider Absent w = tt
@@ -78,82 +125,3 @@ module _ (call : Bytes) where
 
   pub shard-wider : {o : AffectedObject} {a : Span} {h : OptSpan} → o ≡ O.SessionStore a h → objectWithin call o → optWithin call regionLimit h
   shard-wider {h = h} e w = option-wider h (object-case call e w .1)
-
-  single-object : (t : Bytes) (a : Span) → length t ≤ tagMost → within call shortLimit a → length (string t ++ (strings (part call a ∷ []) ++ [])) ≤ objectMost
-  single-object t a h w = omega (arith, ap length (single-fed t {a = part call a} refl), single-most t (part call a) h (part-most shortLimit a w))
-
-  pair-object :
-      (t : Bytes) (a b : Span) → length t ≤ tagMost → within call shortLimit a × within call shortLimit b →
-      length (string t ++ (strings (part call a ∷ part call b ∷ []) ++ [])) ≤ objectMost
-  pair-object t a b h w =
-      omega (
-        arith,
-        ap length (pair-fed t {a = part call a} refl {b = part call b} refl),
-        pair-most t (part call a) (part call b) h (part-most shortLimit a (w .0)) (part-most shortLimit b (w .1)),
-      )
-
-  object-most : (o : AffectedObject) → objectWithin call o → length (fedObject (objectValue call o)) ≤ objectMost
-  unfolding fedObject parts
-  object-most (O.NfInstance a b) w = pair-object (ascii "NfInstance") a b (lit≤ tt) w
-  object-most (O.Interface a b) w = pair-object (ascii "Interface") a b (lit≤ tt) w
-  object-most (O.Peer a b) w = pair-object (ascii "Peer") a b (lit≤ tt) w
-  object-most (O.SessionStore a s) w =
-      let t = ascii "SessionStore" in
-      let h = optional (optPart call s) in
-      omega (
-        arith,
-        ap length (store-fed call {a = a} {h = s} refl refl),
-        length-append (taggedOne t (part call a)) h,
-        single-most t (part call a) (lit≤ tt) (part-most shortLimit a (w .0)),
-        option-most shortLimit s (w .1),
-      )
-  object-most (O.Slice a) w = single-object (ascii "Slice") a (lit≤ tt) w
-  object-most (O.Tenant a) w = single-object (ascii "Tenant") a (lit≤ tt) w
-  object-most (O.Certificate a) w = single-object (ascii "Certificate") a (lit≤ tt) w
-  object-most (O.DataPlaneQueue a b q) w =
-      let t = ascii "DataPlaneQueue" in
-      omega (
-        arith,
-        ap length (queue-fed (part call a) (part call b) q),
-        length-append (taggedTwo t (part call a) (part call b)) (string (decimal q)),
-        pair-most t (part call a) (part call b) (lit≤ tt) (part-most shortLimit a (w .0)) (part-most shortLimit b (w .1)),
-        string-most (decimal q) queueMost (length-decimal q),
-      )
-
-  places-most : (p : Places) → PlacesWithin call p → length (fedPlaces (placesValue call p)) ≤ placesMost
-  unfolding fedPlaces
-  places-most p w =
-      let t = optional (optPart call (p .tenant)) in
-      let s = optional (optPart call (p .slice)) in
-      let r = optional (optPart call (p .region)) in
-      omega (
-        arith,
-        length-append t (s ++ r),
-        length-append s r,
-        option-most shortLimit (p .tenant) (w .tenant),
-        option-most shortLimit (p .slice) (w .slice),
-        option-most regionLimit (p .region) (w .region),
-      )
-
-  -- there is room for all
-  pub fed-room : {b : Bytes} (p : Span) (k : KeyFields) → length b ≡ hashedWidth → within call shortLimit p → KeyWithin call k → Room b 0 (fed (part call p) (keyValue call k))
-  unfolding fed
-  fed-room p k l w v =
-      let t = string (part call p) in
-      let c = string (causePart call (k .cause)) in
-      let o = fedObject (objectValue call (k .object)) in
-      let s = fedPlaces (placesValue call (k .places)) in
-      record {
-        width = l;
-        fits =
-            omega (
-              arith,
-              length-append t (c ++ (o ++ s)),
-              length-append c (o ++ s),
-              length-append o s,
-              string-most (part call p) shortLimit (part-most shortLimit p w),
-              string-most (causePart call (k .cause)) causeLimit (stored-length call (k .cause) (v .cause)),
-              object-most (k .object) (v .object),
-              places-most (k .places) (v .places),
-            );
-      }
