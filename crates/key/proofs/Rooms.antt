@@ -1,99 +1,127 @@
--- Laws of the room that each field takes in the buffer, and of the variant that the code has met.
-use mathlib.Core.Path.{_≡_, sym, ap, _∙_}
+-- Laws of the room in the buffer: for one thing behind another, and for all that is hashed.
+use mathlib.Core.Path.{_≡_, refl, sym, ap, subst, _∙_}
 use mathlib.Core.List.{[], _∷_, _++_}
 use Prim.Native.Nat.{ℕ, _+_, _≤_, _<_}
 use native.Mathlib.Omega.{arith}
-use lib.ListN.{length, drop, getD, length-take, length-append}
-use lib.Dec.{leb, leb→le, lit≤}
-use Rattle.octets.specs.Bytes.{Bytes, ascii}
-use Rattle.octets.specs.RangeLaws.{on-range}
+use lib.ListN.{length, length-append}
+use lib.Dec.{lit≤}
+use Rattle.octets.specs.Bytes.{Bytes, splice, ascii}
+use Rattle.octets.specs.SpliceLaws.{length-splice}
 use Rattle.octets.specs.Put.{Put}
-use Rattle.octets.specs.PutLaws.{put-as}
 use Rattle.definition.specs.Limits.{shortLimit, causeLimit, regionLimit}
-use Rattle.definition.specs.Cause.{names, other}
-use Rattle.definition.specs.Key.{string, optional, strings, decimal, parts, fedObject}
+use Rattle.definition.specs.Key.{string, optional, strings, decimal, parts, fedObject, fedPlaces, fed}
 use Rattle.definition.specs.Laws.Text.Key.{length-string, length-decimal}
 use Rattle.model.specs.declared.AffectedObject.{AffectedObject}
 use Rattle.model.specs.declared.AffectedObject.the-variants as O
-use Rattle.model.specs.declared.CauseSpan.{CauseSpan}
-use Rattle.model.specs.declared.CauseSpan.the-variants.{Name, Other}
 use Rattle.model.specs.declared.Span.{Span}
 use Rattle.model.specs.declared.OptSpan.{OptSpan}
 use Rattle.model.specs.declared.OptSpan.the-variants.{Absent, Present}
-use Rattle.model.specs.Meaning.{part, optPart, causePart, objectValue, within, optWithin, causeWithin, objectWithin}
-use Rattle.key.specs.Hashed.{PutObject}
-use Rattle.key.proofs.Fed.{single-fed, shard-fed, pair-fed, queue-fed}
+use Rattle.model.specs.declared.Places.{Places}
+use Rattle.model.specs.declared.KeyFields.{KeyFields}
+use Rattle.model.specs.Meaning.{part, optPart, causePart, objectValue, placesValue, keyValue, within, optWithin, objectWithin, PlacesWithin, KeyWithin}
+use Rattle.model.specs.CaseLaws.{object-case}
+use Rattle.model.specs.PartLaws.{part-short}
+use Rattle.strings.specs.StoredLength.{stored-length}
+use Rattle.key.specs.Hashed.{stringMost, optionMost, tagMost, queueMost, objectMost, placesMost, hashedWidth, Room, taggedOne, taggedTwo}
+use Rattle.key.proofs.Fed.{single-fed, pair-fed, store-fed, queue-fed}
 
-pub short-name : (k : ℕ) → k < 21 → length (getD names k []) ≤ causeLimit
-short-name k h = leb→le _ _ (on-range (λ (m : ℕ). leb (length (getD names m [])) causeLimit) 21 0 tt k (omega arith) (omega arith))
+-- ---- one thing behind another
+
+-- the same bytes in other words
+pub room-as : {b u v : Bytes} {at : ℕ} → v ≡ u → Room b at u → Room b at v
+room-as {b} {at = at} e r = subst (λ (x : Bytes). Room b at x) (sym e) r
+
+-- where there is room for two, there is for the first, and for the second behind it
+pub room-front : {b u : Bytes} {at : ℕ} (v : Bytes) → Room b at (u ++ v) → Room b at u
+room-front {u = u} v r = record { width = r .width; fits = omega (arith, r .fits, length-append u v) }
+
+pub room-behind : {b c u v : Bytes} {at m : ℕ} → Room b at (u ++ v) → Put b at u m c → Room c m v
+room-behind {b} {u = u} {v} {at} r p =
+    record {
+      width = ap length (p .bytes) ∙ length-splice b at u (omega (arith, p .next, p .fits)) ∙ r .width;
+      fits = omega (arith, r .fits, p .next, length-append u v);
+    }
+
+-- what `put_string` asks for
+pub string-asks : {b : Bytes} {at : ℕ} (s : Bytes) → Room b at (string s) → (at + (4 + length s) ≤ length b) × (length s < 4294967296)
+string-asks s r = (omega (arith, r .width, r .fits, length-string s), omega (arith, r .fits, length-string s))
+
+-- one byte, in front of what there is room for
+pub byte-put : {b c u : Bytes} {at v : ℕ} → Room b at (v ∷ u) → c ≡ splice b at (v ∷ []) → Put b at (v ∷ []) (at + 1) c
+byte-put r e = record { next = refl; fits = omega (arith, r .width, r .fits); bytes = e }
+
+-- ---- the most that each field takes
+
+record Most (v : Bytes) (n : ℕ) : Type 0 where
+  most : length v ≤ n
+
+both : {u v : Bytes} {m n : ℕ} → Most u m → Most v n → Most (u ++ v) (m + n)
+both {u} {v} p q = record { most = omega (arith, p .most, q .most, length-append u v) }
+
+string-most : (s : Bytes) (n : ℕ) → length s ≤ n → Most (string s) (stringMost n)
+string-most s n h = record { most = omega (arith, length-string s) }
+
+-- of the same bytes in other words, within a wider bound
+most-as : {u v : Bytes} {m n : ℕ} → u ≡ v → m ≤ n → Most u m → Most v n
+most-as e h p = record { most = omega (arith, p .most, ap length e) }
 
 module _ (call : Bytes) where
-  pub string-room : (n : ℕ) (p : Span) → within call n p → length (string (part call p)) ≤ 4 + n
-  string-room n p w = omega (arith, length-string (part call p), length-take (p .len) (drop (p .at) call))
+  part-most : (n : ℕ) (p : Span) → within call n p → Most (string (part call p)) (stringMost n)
+  part-most n p w = string-most (part call p) n (part-short call n p refl w)
 
-  pub option-room : (n : ℕ) (p : OptSpan) → optWithin call n p → length (optional (optPart call p)) ≤ 5 + n
-  option-room n Absent w = omega arith
-  option-room n (Present p) w = omega (arith, string-room n p w)
+  option-most : (n : ℕ) (p : OptSpan) → optWithin call n p → Most (optional (optPart call p)) (optionMost n)
+  option-most n Absent w = record { most = omega arith }
+  option-most n (Present p) w = both {u = 1 ∷ []} (record { most = lit≤ tt }) (part-most n p w)
 
-  -- an object's tag and one string, or two
-  pub single-room : (t : Bytes) (a : Span) → within call shortLimit a → length (string t ++ string (part call a)) ≤ length t + 72
-  single-room t a w = omega (arith, length-append (string t) (string (part call a)), length-string t, string-room shortLimit a w)
+  module _ (t : Bytes) (h : length t ≤ tagMost) (a : Span) where
+    single-most : within call shortLimit a → Most (taggedOne t (part call a)) (stringMost tagMost + stringMost shortLimit)
+    single-most w = both (string-most t tagMost h) (part-most shortLimit a w)
 
-  pub pair-room :
-      (t : Bytes) (a b : Span) → within call shortLimit a → within call shortLimit b →
-      length (string t ++ string (part call a) ++ string (part call b)) ≤ length t + 140
-  pair-room t a b w v =
-      omega (arith, length-append (string t ++ string (part call a)) (string (part call b)), single-room t a w, string-room shortLimit b v)
+    pair-most :
+        (b : Span) → within call shortLimit a × within call shortLimit b →
+        Most (taggedTwo t (part call a) (part call b)) (stringMost tagMost + stringMost shortLimit + stringMost shortLimit)
+    pair-most b w = both (single-most (w .0)) (part-most shortLimit b (w .1))
 
-  single-most : (t : Bytes) (a : Span) → within call shortLimit a → length t ≤ 14 → length (string t ++ (strings (part call a ∷ []) ++ [])) ≤ 163
-  single-most t a w h = omega (arith, ap length (single-fed t (part call a)), single-room t a w)
+    one-string : within call shortLimit a → Most (string t ++ (strings (part call a ∷ []) ++ [])) objectMost
+    one-string w = most-as (single-fed t refl) (lit≤ tt) (single-most w)
 
-  pair-most :
-      (t : Bytes) (a b : Span) → within call shortLimit a × within call shortLimit b → length t ≤ 14 →
-      length (string t ++ (strings (part call a ∷ part call b ∷ []) ++ [])) ≤ 163
-  pair-most t a b w h = omega (arith, ap length (pair-fed t (part call a) (part call b)), pair-room t a b (w .0) (w .1))
+    two-strings : (b : Span) → within call shortLimit a × within call shortLimit b → Most (string t ++ (strings (part call a ∷ part call b ∷ []) ++ [])) objectMost
+    two-strings b w = most-as (pair-fed t refl refl) (lit≤ tt) (pair-most b w)
 
-  pub wider : (p : Span) → within call shortLimit p → within call regionLimit p
-  wider p w = (w .0, omega arith)
+  object-most : (o : AffectedObject) → objectWithin call o → Most (fedObject (objectValue call o)) objectMost
+  unfolding fedObject parts
+  object-most (O.NfInstance a b) w = two-strings (ascii "NfInstance") (lit≤ tt) a b w
+  object-most (O.Interface a b) w = two-strings (ascii "Interface") (lit≤ tt) a b w
+  object-most (O.Peer a b) w = two-strings (ascii "Peer") (lit≤ tt) a b w
+  object-most (O.SessionStore a h) w =
+      most-as (store-fed call {a = a} {h = h} refl refl) (lit≤ tt) (both (single-most (ascii "SessionStore") (lit≤ tt) a (w .0)) (option-most shortLimit h (w .1)))
+  object-most (O.Slice a) w = one-string (ascii "Slice") (lit≤ tt) a w
+  object-most (O.Tenant a) w = one-string (ascii "Tenant") (lit≤ tt) a w
+  object-most (O.Certificate a) w = one-string (ascii "Certificate") (lit≤ tt) a w
+  object-most (O.DataPlaneQueue a b q) w =
+      most-as (queue-fed (part call a) (part call b) q) (lit≤ tt) (both (pair-most (ascii "DataPlaneQueue") (lit≤ tt) a b w) (string-most (decimal q) queueMost (length-decimal q)))
+
+  places-most : (p : Places) → PlacesWithin call p → Most (fedPlaces (placesValue call p)) placesMost
+  unfolding fedPlaces
+  places-most p w =
+      most-as refl (lit≤ tt)
+      (both (option-most shortLimit (p .tenant) (w .tenant)) (both (option-most shortLimit (p .slice) (w .slice)) (option-most regionLimit (p .region) (w .region))))
+
+  -- there is room for all that is hashed
+  pub fed-room :
+      {b : Bytes} (p : Span) (k : KeyFields) → length b ≡ hashedWidth → within call shortLimit p → KeyWithin call k →
+      Room b 0 (fed (part call p) (keyValue call k))
+  unfolding fed
+  fed-room p k l w v =
+      let behind-cause = both (object-most (k .object) (v .object)) (places-most (k .places) (v .places)) in
+      let behind-type = both (string-most (causePart call (k .cause)) causeLimit (stored-length call (k .cause) (v .cause))) behind-cause in
+      record { width = l; fits = omega (arith, both (part-most shortLimit p w) behind-type .most) }
+
+  -- ---- an option within the limit of tenant and slice is within that of a region
 
   pub option-wider : (p : OptSpan) → optWithin call shortLimit p → optWithin call regionLimit p
   option-wider Absent w = tt
-  option-wider (Present p) w = wider p w
+  option-wider (Present p) w = (w .0, omega arith)
 
-  -- what was put for the variant that the code has met was put for the object
-  pub met : {b c u : Bytes} {at r : ℕ} {o p : AffectedObject} → o ≡ p → u ≡ fedObject (objectValue call p) → Put b at u r c → PutObject b at call o r c
-  met e f p = put-as (f ∙ ap (λ (x : AffectedObject). fedObject (objectValue call x)) (sym e)) p
-
-  pub option-fed : {p q : OptSpan} → p ≡ q → optional (optPart call q) ≡ optional (optPart call p)
-  option-fed e = ap (λ (x : OptSpan). optional (optPart call x)) (sym e)
-
-  pub cause-room : (c : CauseSpan) → causeWithin call c → length (string (causePart call c)) ≤ 4 + causeLimit
-  cause-room (Name k) w = omega (arith, length-string (getD names k []), short-name k w)
-  cause-room (Other p) w =
-      omega (arith, length-string (other ++ part call p), length-append other (part call p), length-take (p .len) (drop (p .at) call))
-
-  pub object-room : (o : AffectedObject) → objectWithin call o → length (fedObject (objectValue call o)) ≤ 163
-  unfolding fedObject parts
-  object-room (O.NfInstance a b) w = pair-most (ascii "NfInstance") a b w (lit≤ tt)
-  object-room (O.Interface a b) w = pair-most (ascii "Interface") a b w (lit≤ tt)
-  object-room (O.Peer a b) w = pair-most (ascii "Peer") a b w (lit≤ tt)
-  object-room (O.SessionStore a s) w =
-      omega (
-        arith,
-        ap length (shard-fed (ascii "SessionStore") (part call a) (optional (optPart call s))),
-        length-append (string (ascii "SessionStore") ++ string (part call a)) (optional (optPart call s)),
-        single-room (ascii "SessionStore") a (w .0),
-        option-room shortLimit s (w .1),
-      )
-  object-room (O.Slice a) w = single-most (ascii "Slice") a w (lit≤ tt)
-  object-room (O.Tenant a) w = single-most (ascii "Tenant") a w (lit≤ tt)
-  object-room (O.Certificate a) w = single-most (ascii "Certificate") a w (lit≤ tt)
-  object-room (O.DataPlaneQueue a b q) w =
-      omega (
-        arith,
-        ap length (queue-fed (ascii "DataPlaneQueue") (part call a) (part call b) (string (decimal q))),
-        length-append (string (ascii "DataPlaneQueue") ++ string (part call a) ++ string (part call b)) (string (decimal q)),
-        pair-room (ascii "DataPlaneQueue") a b (w .0) (w .1),
-        length-string (decimal q),
-        length-decimal q,
-      )
+  pub shard-wider : {o : AffectedObject} {a : Span} {h : OptSpan} → o ≡ O.SessionStore a h → objectWithin call o → optWithin call regionLimit h
+  shard-wider {h = h} e w = option-wider h (object-case call e w .1)

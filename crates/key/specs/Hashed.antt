@@ -1,39 +1,46 @@
--- The buffer of what is hashed: how much room a field has in it, and what is put there for an object.
+-- The buffer of what is hashed: how wide it is, the room that bytes have in it, and an object's strings behind its kind's tag.
 use mathlib.Core.Path.{_≡_}
 use mathlib.Core.List.{_++_}
 use Prim.Native.Nat.{ℕ, _+_, _≤_}
 use lib.ListN.{length}
 use Rattle.octets.specs.Bytes.{Bytes}
-use Rattle.octets.specs.Put.{Put}
-use Rattle.definition.specs.Key.{string, fedObject}
-use Rattle.model.specs.Meaning.{part, objectValue}
-use Rattle.model.specs.declared.AffectedObject.{AffectedObject}
-use Rattle.model.specs.declared.Span.{Span}
+use Rattle.definition.specs.Limits.{shortLimit, causeLimit, regionLimit}
+use Rattle.definition.specs.Key.{string}
 
--- its width: type, cause, object and places take 68 + 100 + 163 + 271 bytes at most
+-- ---- its width: the most that each field takes, within the limits of a record
+
+-- a string of n bytes behind its length, and an optional one
+abbrev pub stringMost : ℕ → ℕ
+stringMost n = 4 + n
+
+abbrev pub optionMost : ℕ → ℕ
+optionMost n = 1 + stringMost n
+
+-- the longest object is of kind 8: no tag is longer than `DataPlaneQueue`, and a queue has five digits at most
+abbrev pub tagMost : ℕ
+tagMost = 14
+
+abbrev pub queueMost : ℕ
+queueMost = 5
+
+abbrev pub objectMost : ℕ
+objectMost = stringMost tagMost + stringMost shortLimit + stringMost shortLimit + stringMost queueMost
+
+abbrev pub placesMost : ℕ
+placesMost = optionMost shortLimit + optionMost shortLimit + optionMost regionLimit
+
 abbrev pub hashedWidth : ℕ
-hashedWidth = 640
+hashedWidth = stringMost shortLimit + stringMost causeLimit + objectMost + placesMost
 
--- what is left for an object, behind type and cause
-abbrev pub objectRoom : ℕ
-objectRoom = 472
+-- the buffer has room for these bytes from a place on
+pub record Room (buf : Bytes) (at : ℕ) (v : Bytes) : Type 0 where
+  pub width : length buf ≡ hashedWidth
+  pub fits : at + length v ≤ hashedWidth
 
--- and for places, behind these and an object
-abbrev pub placesRoom : ℕ
-placesRoom = 309
+-- ---- a kind's tag, with one string or two
 
--- the buffer has room for n bytes from a place on
-abbrev pub Room : Bytes → ℕ → ℕ → Type 0
-Room buf at n = (length buf ≡ hashedWidth) × (at + n ≤ hashedWidth)
+abbrev pub taggedOne : Bytes → Bytes → Bytes
+taggedOne tag a = string tag ++ string a
 
--- ---- a kind's tag, with one string of the call or two
-
-abbrev pub taggedOne : Bytes → Bytes → Span → Bytes
-taggedOne call tag a = string tag ++ string (part call a)
-
-abbrev pub taggedTwo : Bytes → Bytes → Span → Span → Bytes
-taggedTwo call tag a b = taggedOne call tag a ++ string (part call b)
-
--- what is hashed of an object was put
-abbrev pub PutObject : Bytes → ℕ → Bytes → AffectedObject → ℕ → Bytes → Type 0
-PutObject buf at call o next after = Put buf at (fedObject (objectValue call o)) next after
+abbrev pub taggedTwo : Bytes → Bytes → Bytes → Bytes
+taggedTwo tag a b = taggedOne tag a ++ string b

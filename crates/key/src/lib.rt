@@ -1,48 +1,69 @@
 // The key of an alarm: the first 16 bytes of SHA-256 over its type, cause, object and places; and its digits.
 //
 // What is hashed is put into a buffer, one field behind the other, as the definition's `fed` gives it (Key.antt): strings and options as
-// in a call, an object as its kind's tag and strings. The buffer is as wide as the longest fields need, so that nothing is tested: each
-// function asks for room behind its place, and specs/Hashed.antt says how much is left for which field. `key_of` promises the
-// definition's `keyOf`; `put_hex` writes a key's digits into an answer.
+// in a call, an object as its kind's tag and strings. Each field is a part of the call: functions that take spans apart lend it, and
+// functions that put strings receive its bytes. The buffer is as wide as the longest fields need, so that nothing is tested: each
+// function asks for room for what it puts (specs/Hashed.antt). `key_of` promises the definition's `keyOf`; `put_hex` writes a key's
+// digits into an answer.
 use model::AffectedObject;
 use model::KeyFields;
 use model::OptSpan;
 use model::Places;
+use model::Record;
 use model::Span;
+use model::part;
 ghost use mathlib.Core.Path.{_≡_};
+ghost use mathlib.Core.Option.{some};
 ghost use Prim.Native.Nat.{_+_, _-_, _*_, _≤_, _<_};
 ghost use lib.ListN.{length};
 ghost use Rattle.octets.specs.Bytes.{splice};
 ghost use Rattle.octets.specs.Put.{Put};
 ghost use Rattle.definition.specs.Limits.{shortLimit, regionLimit};
-ghost use Rattle.definition.specs.Key.{string, optional, decimal, fedPlaces, fed, keyOf, hexDigit, hex};
-ghost use Rattle.model.specs.Meaning.{part, optPart, placesValue, keyValue, within, optWithin, objectWithin, PlacesWithin, KeyWithin};
-ghost use Rattle.key.specs.Hashed.{hashedWidth, objectRoom, placesRoom, Room, taggedOne, taggedTwo, PutObject};
+ghost use Rattle.definition.specs.Value.{dataPlaneQueue};
+ghost use Rattle.definition.specs.Key.{string, optional, decimal, fedObject, fedPlaces, fed, keyOf, hexDigit, hex};
+ghost use Rattle.model.specs.Meaning.{part, optPart, objectValue, placesValue, keyValue};
+ghost use Rattle.model.specs.Meaning.{within, optWithin, objectWithin, PlacesWithin, KeyWithin};
+ghost use Rattle.key.specs.Hashed.{hashedWidth, Room, taggedOne, taggedTwo};
 
-// ---- strings and options, as in a call
+// ---- the width of what is hashed, from the record's limits
 
-// A string of the call.
-fn put_part(buf: &mut [u8], at: usize, call: &[u8], p: Span) -> usize
-    requires { ⌜ Room (now buf) at (4 + regionLimit) × within (now call) regionLimit p ⌝ }
-    ensures { λ r. ⌜ Put (now (buf .entry)) at (string (part (now (call .entry)) p)) r (now (buf .exit)) ⌝ }
+// In front of a string its length, in front of an optional one a byte besides.
+const LENGTH: usize = 4;
+
+const MARK: usize = 1;
+
+// The longest object is of kind 8: the letters of its tag, which is the longest, two strings, and the digits of its queue.
+const TAG: usize = 14;
+
+const DIGITS: usize = 5;
+
+const OBJECT: usize = (LENGTH + TAG) + 2 * (LENGTH + Record::SHORT) + (LENGTH + DIGITS);
+
+const PLACES: usize = 2 * (MARK + LENGTH + Record::SHORT) + (MARK + LENGTH + Record::REGION);
+
+const HASHED: usize = (LENGTH + Record::SHORT) + (LENGTH + Record::CAUSE) + OBJECT + PLACES;
+
+// ---- options, as in a call
+
+// A string that is there.
+fn put_present(buf: &mut [u8], at: usize, s: &[u8]) -> usize
+    requires { ⌜ Room (now buf) at (optional (some (now s))) ⌝ }
+    ensures { λ r. ⌜ Put (now (buf .entry)) at (optional (some (now (s .entry)))) r (now (buf .exit)) ⌝ }
 {
-    strings::put_string(buf, at, model::part(call, p))
+    octets::put_byte(buf, at, 1);
+    strings::put_string(buf, at + 1, s)
 }
 
 fn put_option(buf: &mut [u8], at: usize, call: &[u8], p: OptSpan) -> usize
-    requires { ⌜ Room (now buf) at (5 + regionLimit) × optWithin (now call) regionLimit p ⌝ }
+    requires { ⌜ Room (now buf) at (optional (optPart (now call) p)) × optWithin (now call) regionLimit p ⌝ }
     ensures { λ r. ⌜ Put (now (buf .entry)) at (optional (optPart (now (call .entry)) p)) r (now (buf .exit)) ⌝ }
 {
-    let a = at + 1;
     match p {
         OptSpan::Absent => {
             octets::put_byte(buf, at, 0);
-            a
+            at + 1
         }
-        OptSpan::Present(q) => {
-            octets::put_byte(buf, at, 1);
-            put_part(buf, a, call, q)
-        }
+        OptSpan::Present(q) => put_present(buf, at, part(call, q)),
     }
 }
 
@@ -67,7 +88,7 @@ fn unwritten(q: u16) -> usize
 
 // The queue, in decimal digits.
 fn put_queue(buf: &mut [u8], at: usize, q: u16) -> usize
-    requires { ⌜ Room (now buf) at 9 ⌝ }
+    requires { ⌜ Room (now buf) at (string (decimal q)) ⌝ }
     ensures { λ r. ⌜ Put (now (buf .entry)) at (string (decimal q)) r (now (buf .exit)) ⌝ }
 {
     let digits = [
@@ -82,108 +103,85 @@ fn put_queue(buf: &mut [u8], at: usize, q: u16) -> usize
 }
 
 // A kind's tag and its one string.
-fn put_single(buf: &mut [u8], at: usize, tag: &[u8], call: &[u8], a: Span) -> usize
-    requires { ⌜ Room (now buf) at objectRoom × (length (now tag) ≤ 14) × within (now call) shortLimit a ⌝ }
-    ensures { λ r.
-        ⌜ Put
-        (now (buf .entry))
-        at
-        (taggedOne (now (call .entry)) (now (tag .entry)) a)
-        r
-        (now (buf .exit)) ⌝ }
+fn put_single(buf: &mut [u8], at: usize, tag: &[u8], a: &[u8]) -> usize
+    requires { ⌜ Room (now buf) at (taggedOne (now tag) (now a)) ⌝ }
+    ensures { λ r. ⌜ Put (now (buf .entry)) at (taggedOne (now (tag .entry)) (now (a .entry))) r (now (buf .exit)) ⌝ }
 {
     let n = strings::put_string(buf, at, tag);
-    put_part(buf, n, call, a)
+    strings::put_string(buf, n, a)
 }
 
 // A kind's tag and its two strings.
-fn put_pair(buf: &mut [u8], at: usize, tag: &[u8], call: &[u8], a: Span, b: Span) -> usize
-    requires { ⌜ Room (now buf) at objectRoom
-        × (length (now tag) ≤ 14)
-        × (within (now call) shortLimit a × within (now call) shortLimit b) ⌝ }
+fn put_pair(buf: &mut [u8], at: usize, tag: &[u8], a: &[u8], b: &[u8]) -> usize
+    requires { ⌜ Room (now buf) at (taggedTwo (now tag) (now a) (now b)) ⌝ }
     ensures { λ r.
         ⌜ Put
         (now (buf .entry))
         at
-        (taggedTwo (now (call .entry)) (now (tag .entry)) a b)
+        (taggedTwo (now (tag .entry)) (now (a .entry)) (now (b .entry)))
         r
         (now (buf .exit)) ⌝ }
 {
-    let n = put_single(buf, at, tag, call, a);
-    put_part(buf, n, call, b)
-}
-
-// Kind 4: behind its string the optional shard.
-fn put_session_store(buf: &mut [u8], at: usize, call: &[u8], nf: Span, shard: OptSpan) -> usize
-    requires { ⌜ Room (now buf) at objectRoom × objectWithin (now call) (AffectedObject.SessionStore nf shard) ⌝ }
-    ensures { λ r.
-        ⌜ PutObject
-        (now (buf .entry))
-        at
-        (now (call .entry))
-        (AffectedObject.SessionStore nf shard)
-        r
-        (now (buf .exit)) ⌝ }
-{
-    let n = put_single(buf, at, b"SessionStore", call, nf);
-    put_option(buf, n, call, shard)
+    let n = put_single(buf, at, tag, a);
+    strings::put_string(buf, n, b)
 }
 
 // Kind 8: behind its strings the queue.
-fn put_data_plane_queue(
-    buf: &mut [u8],
-    at: usize,
-    call: &[u8],
-    nf: Span,
-    interface: Span,
-    queue: u16,
-) -> usize
-    requires { ⌜ Room (now buf) at objectRoom
-        × objectWithin (now call) (AffectedObject.DataPlaneQueue nf interface queue) ⌝ }
+fn put_data_plane_queue(buf: &mut [u8], at: usize, nf: &[u8], interface: &[u8], queue: u16) -> usize
+    requires { ⌜ Room (now buf) at (fedObject (dataPlaneQueue (now nf) (now interface) queue)) ⌝ }
     ensures { λ r.
-        ⌜ PutObject
+        ⌜ Put
         (now (buf .entry))
         at
-        (now (call .entry))
-        (AffectedObject.DataPlaneQueue nf interface queue)
+        (fedObject (dataPlaneQueue (now (nf .entry)) (now (interface .entry)) queue))
         r
         (now (buf .exit)) ⌝ }
 {
-    let n = put_pair(buf, at, b"DataPlaneQueue", call, nf, interface);
+    let n = put_pair(buf, at, b"DataPlaneQueue", nf, interface);
     put_queue(buf, n, queue)
 }
 
 fn put_object(buf: &mut [u8], at: usize, call: &[u8], o: AffectedObject) -> usize
-    requires { ⌜ Room (now buf) at objectRoom × objectWithin (now call) o ⌝ }
-    ensures { λ r. ⌜ PutObject (now (buf .entry)) at (now (call .entry)) o r (now (buf .exit)) ⌝ }
+    requires { ⌜ Room (now buf) at (fedObject (objectValue (now call) o)) × objectWithin (now call) o ⌝ }
+    ensures { λ r. ⌜ Put (now (buf .entry)) at (fedObject (objectValue (now (call .entry)) o)) r (now (buf .exit)) ⌝ }
 {
     match o {
-        AffectedObject::NfInstance { kind, instance } => put_pair(
-            buf,
-            at,
-            b"NfInstance",
-            call,
-            kind,
-            instance,
-        ),
-        AffectedObject::Interface { nf, name } => put_pair(buf, at, b"Interface", call, nf, name),
-        AffectedObject::Peer { nf, peer_id } => put_pair(buf, at, b"Peer", call, nf, peer_id),
-        AffectedObject::SessionStore { nf, shard } => put_session_store(buf, at, call, nf, shard),
-        AffectedObject::Slice { snssai } => put_single(buf, at, b"Slice", call, snssai),
-        AffectedObject::Tenant { tenant } => put_single(buf, at, b"Tenant", call, tenant),
-        AffectedObject::Certificate { key_id } => put_single(buf, at, b"Certificate", call, key_id),
+        AffectedObject::NfInstance { kind, instance } => {
+            put_pair(
+                buf,
+                at,
+                b"NfInstance",
+                part(call, kind),
+                part(call, instance),
+            )
+        }
+        AffectedObject::Interface { nf, name } => {
+            put_pair(buf, at, b"Interface", part(call, nf), part(call, name))
+        }
+        AffectedObject::Peer { nf, peer_id } => {
+            put_pair(buf, at, b"Peer", part(call, nf), part(call, peer_id))
+        }
+        AffectedObject::SessionStore { nf, shard } => {
+            let n = put_single(buf, at, b"SessionStore", part(call, nf));
+            put_option(buf, n, call, shard)
+        }
+        AffectedObject::Slice { snssai } => put_single(buf, at, b"Slice", part(call, snssai)),
+        AffectedObject::Tenant { tenant } => put_single(buf, at, b"Tenant", part(call, tenant)),
+        AffectedObject::Certificate { key_id } => {
+            put_single(buf, at, b"Certificate", part(call, key_id))
+        }
         AffectedObject::DataPlaneQueue {
             nf,
             interface,
             queue,
-        } => put_data_plane_queue(buf, at, call, nf, interface, queue),
+        } => put_data_plane_queue(buf, at, part(call, nf), part(call, interface), queue),
     }
 }
 
 // ---- tenant, slice and region
 
 fn put_places(buf: &mut [u8], at: usize, call: &[u8], p: Places) -> usize
-    requires { ⌜ Room (now buf) at placesRoom × PlacesWithin (now call) p ⌝ }
+    requires { ⌜ Room (now buf) at (fedPlaces (placesValue (now call) p)) × PlacesWithin (now call) p ⌝ }
     ensures { λ r. ⌜ Put (now (buf .entry)) at (fedPlaces (placesValue (now (call .entry)) p)) r (now (buf .exit)) ⌝ }
 {
     let tenant = p.tenant;
@@ -212,7 +210,7 @@ fn feed(buf: &mut [u8], call: &[u8], alarm_type: Span, k: KeyFields) -> usize
     let cause = k.cause;
     let object = k.object;
     let places = k.places;
-    let t = put_part(buf, 0, call, alarm_type);
+    let t = strings::put_string(buf, 0, part(call, alarm_type));
     let c = strings::put_cause(buf, t, call, cause);
     let o = put_object(buf, c, call, object);
     put_places(buf, o, call, places)
@@ -223,7 +221,7 @@ pub fn key_of(call: &[u8], alarm_type: Span, k: KeyFields) -> [u8; 16]
     requires { ⌜ within (now call) shortLimit «alarm_type» × KeyWithin (now call) k ⌝ }
     ensures { λ r. ⌜ r ≡ keyOf (part (now (call .entry)) «alarm_type») (keyValue (now (call .entry)) k) ⌝ }
 {
-    let mut buf = [0u8; 640];
+    let mut buf = [0u8; HASHED];
     let n = feed(&mut buf, call, alarm_type, k);
     let digest = sha256::sha256(&buf[..n]);
     let mut key = [0u8; 16];

@@ -4,7 +4,7 @@
 // what it put, and promises by `Put` (octets) that it changed no other byte. A cause is put in its stored form: one of the 21 names, or
 // `other:` and the trimmed name, which the parser left in the call. A call's limits bound all lengths; who calls sees to the room.
 use model::CauseSpan;
-use model::Span;
+use model::Record;
 ghost use mathlib.Core.List.{[], _++_};
 ghost use Prim.Native.Nat.{_+_, _≤_, _<_};
 ghost use lib.ListN.{length, getD};
@@ -12,7 +12,7 @@ ghost use Rattle.octets.specs.Put.{Put};
 ghost use Rattle.definition.specs.Limits.{causeLimit};
 ghost use Rattle.definition.specs.Cause.{names, other};
 ghost use Rattle.definition.specs.Key.{string};
-ghost use Rattle.model.specs.Meaning.{part, causePart, causeWithin};
+ghost use Rattle.model.specs.Meaning.{causePart, causeWithin};
 
 pub fn put_string(buf: &mut [u8], at: usize, s: &[u8]) -> usize
     requires { ⌜ (at + (4 + length (now s)) ≤ length (now buf)) × (length (now s) < 4294967296) ⌝ }
@@ -27,28 +27,28 @@ pub fn put_string(buf: &mut [u8], at: usize, s: &[u8]) -> usize
 
 // ---- a cause, in its stored form
 
-// A name by its place; the longest has 28 letters.
+// A name by its place.
 fn put_name(buf: &mut [u8], at: usize, k: usize) -> usize
-    requires { ⌜ (at + 32 ≤ length (now buf)) × (k < 21) ⌝ }
+    requires { ⌜ (at + (4 + causeLimit) ≤ length (now buf)) × (k < 21) ⌝ }
     ensures { λ r. ⌜ Put (now (buf .entry)) at (string (getD names k [])) r (now (buf .exit)) ⌝ }
 {
-    let mut name = [0u8; 28];
+    let mut name = [0u8; Record::CAUSE];
     let n = cause::put_name(&mut name, 0, k);
     put_string(buf, at, &name[..n])
 }
 
 // `other:` and the trimmed name.
-fn put_other(buf: &mut [u8], at: usize, call: &[u8], p: Span) -> usize
-    requires { ⌜ (at + (4 + causeLimit) ≤ length (now buf)) × causeWithin (now call) (CauseSpan.Other p) ⌝ }
-    ensures { λ r. ⌜ Put (now (buf .entry)) at (string (other ++ part (now (call .entry)) p)) r (now (buf .exit)) ⌝ }
+fn put_other(buf: &mut [u8], at: usize, name: &[u8]) -> usize
+    requires { ⌜ (at + (4 + causeLimit) ≤ length (now buf)) × (6 + length (now name) ≤ causeLimit) ⌝ }
+    ensures { λ r. ⌜ Put (now (buf .entry)) at (string (other ++ now (name .entry))) r (now (buf .exit)) ⌝ }
 {
-    let n = p.len;
+    let n = name.len();
     octets::put32(buf, at, (6 + n) as u32);
     let mark = at + 4;
     octets::put_bytes(buf, mark, b"other:");
-    let name = at + 10;
-    octets::put_bytes(buf, name, model::part(call, p));
-    name + n
+    let behind = at + 10;
+    octets::put_bytes(buf, behind, name);
+    behind + n
 }
 
 pub fn put_cause(buf: &mut [u8], at: usize, call: &[u8], c: CauseSpan) -> usize
@@ -57,6 +57,6 @@ pub fn put_cause(buf: &mut [u8], at: usize, call: &[u8], c: CauseSpan) -> usize
 {
     match c {
         CauseSpan::Name(k) => put_name(buf, at, k),
-        CauseSpan::Other(p) => put_other(buf, at, call, p),
+        CauseSpan::Other(p) => put_other(buf, at, model::part(call, p)),
     }
 }

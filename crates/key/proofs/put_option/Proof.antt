@@ -1,34 +1,54 @@
--- `put_option` meets its contract: a byte, and the string behind it where there is one.
-use mathlib.Core.Path.{refl}
-use Rattle.octets.specs.PutLaws.{put-two, put-as}
+-- `put_option` meets its contract: byte 0, or the string as one that is there.
+use mathlib.Core.Path.{refl, ap}
+use mathlib.Core.Option.{some}
+use native.Mathlib.Omega.{arith}
+use Rattle.octets.specs.PutLaws.{put-as}
 use Rattle.model.specs.CaseLaws.{option-case}
-use Rattle.key.proofs.Rooms.{option-fed}
+use Rattle.key.proofs.Fed.{option-fed}
+use Rattle.key.proofs.Rooms.{room-as, byte-put}
 use borrow.Author.Needs.{needs}
 use Rattle.key.proofs.put_option.Statement.{statement}
 use Rattle.key.proofs.put_option.Tie as tie
 
-put-part-requires : tie.Need-put-part-requires
-put-part-requires c κs = (search needs, option-case _ _ (c .before .before .before .before .before .before .p .given .1) (c .before .before .before .before .before .before .before .before .before .before .pre .1))
+put-byte-requires : tie.Need-put-byte-requires
+put-byte-requires c κs =
+    let k = c .before in
+    let r = room-as (option-fed _ (k .enum-told .given .1) refl) (k .before .before .before .before .pre .0) in
+    omega (arith, r .width, r .fits)
+
+part-requires : tie.Need-part-requires
+part-requires c κs =
+    let k = c .before .before in
+    option-case _ _ (k .p .given .1) (k .before .before .before .before .pre .1) .0
+
+put-present-requires : tie.Need-put-present-requires
+put-present-requires c κs =
+    let k = c .before .before .before in
+    room-as (option-fed _ (k .p .given .1) (ap some (c .part .ensures))) (k .before .before .before .before .pre .0)
 
 returns : tie.Need-returns
 returns c =
-    put-as (option-fed _ (c .before .before .before .before .enum-told .given .1)) (record { next = refl; fits = search needs; bytes = c .before .before .put-byte .ensures })
+    let mark = c .before .before in
+    let k = mark .before .before in
+    let absent = option-fed _ (k .enum-told .given .1) refl in
+    put-as absent (byte-put (room-as absent (k .before .before .before .before .pre .0)) (mark .put-byte .ensures))
 
 returns-2 : tie.Need-returns-2
 returns-2 c =
-    put-as (option-fed _ (c .before .before .before .before .before .before .before .before .before .p .given .1))
-    (put-two (record { next = refl; fits = search needs; bytes = c .before .before .before .before .before .before .put-byte2 .ensures }) (c .before .before .put-part .ensures))
+    let present = c .before .before in
+    let lent = present .before in
+    put-as (option-fed _ (lent .before .before .before .p .given .1) (ap some (lent .part .ensures))) (present .put-present .ensures)
 
 pub put-option-spec : {M : Type 1} → statement M
 put-option-spec =
     tie.close
     (tie.spec
     (λ c. search needs)
+    put-byte-requires
     (λ c. search needs)
-    (λ c κs. search needs)
     (λ c. search needs)
-    (λ c κs. search needs)
-    put-part-requires
+    part-requires
+    put-present-requires
     (λ c. search needs)
     returns
     (λ c. search needs)

@@ -1,19 +1,23 @@
 -- `put_pair` meets its contract: the second string stands behind tag and first string.
-use native.Mathlib.Omega.{arith}
 use Rattle.octets.specs.PutLaws.{put-two}
-use Rattle.key.proofs.Rooms.{single-room, wider}
+use Rattle.key.proofs.Rooms.{room-front, room-behind, string-asks}
 use borrow.Author.Needs.{needs}
 use Rattle.key.proofs.put_pair.Statement.{statement}
 use Rattle.key.proofs.put_pair.Tie as tie
 
-put-part-requires : tie.Need-put-part-requires
-put-part-requires c κs =
-    let s = c .before .before .before .before .before .before .before .before in
-    let l = single-room (s .args .call .now) (s .args .tag .now) (s .args .a) (s .pre .2 .0) in
-    ((search needs, omega arith), wider (s .args .call .now) _ (s .pre .2 .1))
+put-single-requires : tie.Need-put-single-requires
+put-single-requires c κs = room-front _ (c .before .before .before .before .before .pre)
+
+put-string-requires : tie.Need-put-string-requires
+put-string-requires c κs =
+    let single = c .before .before .before in
+    let s = single .before .before .before .before .before .before in
+    string-asks (s .args .b .now) (room-behind (s .pre) (single .put-single .ensures))
 
 returns : tie.Need-returns
-returns c = put-two (c .before .before .before .before .before .before .put-single .ensures) (c .before .before .put-part .ensures)
+returns c =
+    let string = c .before .before in
+    put-two (string .before .before .before .before .put-single .ensures) (string .put-string .ensures)
 
 pub put-pair-spec : {M : Type 1} → statement M
-put-pair-spec = tie.close (tie.spec (λ c κs. search needs) put-part-requires (λ c. search needs) returns)
+put-pair-spec = tie.close (tie.spec put-single-requires put-string-requires (λ c. search needs) returns)

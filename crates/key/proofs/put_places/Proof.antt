@@ -1,33 +1,31 @@
 -- `put_places` meets its contract: three options, one behind the other.
-use native.Mathlib.Omega.{arith}
 use Rattle.octets.specs.PutLaws.{put-two}
-use Rattle.definition.specs.Limits.{shortLimit}
 use Rattle.definition.specs.Key.{fedPlaces}
-use Rattle.key.proofs.Rooms.{option-room, option-wider}
+use Rattle.key.proofs.Rooms.{room-front, room-behind, option-wider}
 use borrow.Author.Needs.{needs}
 use Rattle.key.proofs.put_places.Statement.{statement}
 use Rattle.key.proofs.put_places.Tie as tie
 
 put-option-requires : tie.Need-put-option-requires
+unfolding fedPlaces
 put-option-requires c κs =
     let s = c .before .before .before in
-    (search needs, option-wider (s .args .call .now) (s .args .p .tenant) (s .pre .1 .tenant))
+    (room-front _ (s .pre .0), option-wider (s .args .call .now) (s .args .p .tenant) (s .pre .1 .tenant))
 
 put-option-requires-2 : tie.Need-put-option-requires-2
+unfolding fedPlaces
 put-option-requires-2 c κs =
-    let s = c .before .before .before .before .before .before .before in
-    let call = s .args .call .now in
-    let t = option-room call shortLimit (s .args .p .tenant) (s .pre .1 .tenant) in
-    ((search needs, omega arith), option-wider call (s .args .p .slice) (s .pre .1 .slice))
+    let tenant = c .before .before .before in
+    let s = tenant .before .before .before .before in
+    (room-front _ (room-behind (s .pre .0) (tenant .put-option .ensures)), option-wider (s .args .call .now) (s .args .p .slice) (s .pre .1 .slice))
 
 put-option-requires-3 : tie.Need-put-option-requires-3
+unfolding fedPlaces
 put-option-requires-3 c κs =
-    let slice = c .before .before .before .before in
-    let s = slice .before .before .before .before .before .before .before in
-    let call = s .args .call .now in
-    let t = option-room call shortLimit (s .args .p .tenant) (s .pre .1 .tenant) in
-    let l = option-room call shortLimit (s .args .p .slice) (s .pre .1 .slice) in
-    ((search needs, omega arith), s .pre .1 .region)
+    let slice = c .before .before .before in
+    let tenant = slice .before .before .before .before in
+    let s = tenant .before .before .before .before in
+    (room-behind (room-behind (s .pre .0) (tenant .put-option .ensures)) (slice .put-option2 .ensures), s .pre .1 .region)
 
 returns : tie.Need-returns
 unfolding fedPlaces

@@ -4,7 +4,8 @@ use native.Mathlib.Omega.{arith}
 use lib.Seq.{length-take-le}
 use Rattle.octets.specs.PutLaws.{put-as, put-front}
 use Rattle.definition.specs.Key.{string}
-use Rattle.strings.proofs.Stored.{name-length, name-put}
+use Rattle.strings.specs.StoredLength.{name-length}
+use Rattle.strings.proofs.Stored.{name-put}
 use borrow.Author.Needs.{needs}
 use Rattle.strings.proofs.put_name.Statement.{statement}
 use Rattle.strings.proofs.put_name.Tie as tie
