@@ -2,7 +2,7 @@
 -- For the rows of Marked, and for the twins in TwinRaises.
 use Prim.Native.Nat.{ℕ}
 use Prim.Native.String.{String}
-use mathlib.Core.List.{List, [], _∷_, _++_}
+use mathlib.Core.List.{[], _∷_, _++_}
 use lib.ListN.{length}
 use Rattle.octets.specs.Bytes.{Bytes, ascii, be32, be64}
 use Rattle.definition.specs.Slot.{join}
@@ -33,13 +33,13 @@ tenant a = 6 ∷ sent a
 -- ---- "1 raise: time, id, type, severity, cause, object, tenant?, slice?, region?, text, details?"
 
 -- those before the text: type `t`, severity 3, no slice, no region
-abbrev pub beforeText : ℕ → String → String → Bytes → Bytes → Bytes
-beforeText time id cause object tenant? =
+abbrev pub sentBeforeText : ℕ → String → String → Bytes → Bytes → Bytes
+sentBeforeText time id cause object tenant? =
     join (be64 time ∷ sent id ∷ sent "t" ∷ byte 3 ∷ sent cause ∷ object ∷ tenant? ∷ absent ∷ absent ∷ [])
 
 -- no text, no details
 abbrev pub raiseOf : ℕ → String → String → Bytes → Bytes → Bytes
-raiseOf time id cause object tenant? = 1 ∷ (beforeText time id cause object tenant? ++ (sent "" ++ absent))
+raiseOf time id cause object tenant? = 1 ∷ (sentBeforeText time id cause object tenant? ++ (sent "" ++ absent))
 
 -- lease-lost on a tenant object
 abbrev pub raise : ℕ → String → String → Bytes

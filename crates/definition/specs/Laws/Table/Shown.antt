@@ -78,18 +78,20 @@ offsets b (suc n) i = 1536 * i ∷ offsets b n (at32 b (1536 * i))
 abbrev ofChain : ℕ → ℕ → ℕ → Bytes → List Bytes
 ofChain head field n b = map (λ (k : ℕ). take n (drop (k + field) b)) (offsets b (at32 b (head + 4)) (at32 b head))
 
--- active_head 12: cause length 179, cause 181 to 276
+-- active_head 12: updated_at 30 to 37; cause length 179, cause 181 to 276
+abbrev pub activeUpdated : Bytes → List Bytes
+activeUpdated b = ofChain 12 30 8 b
+
 abbrev pub activeCauses : Bytes → List Bytes
 activeCauses b = ofChain 12 179 98 b
 
--- history_head 20: state 21
+-- history_head 20: state 21; cleared_at present 38, cleared_at 39 to 46
 abbrev pub historyStates : Bytes → List Bytes
 historyStates b = ofChain 20 21 1 b
 
--- cleared_at present 38, cleared_at 39 to 46
 abbrev pub historyCleared : Bytes → List Bytes
 historyCleared b = ofChain 20 38 9 b
 
--- audit_length 32, successes 44, failures 52
+-- in the header audit_length 32, successes 44, failures 52
 abbrev pub audited : Bytes → ℕ × ℕ × ℕ
 audited b = (at32 b 32, numberAt 8 b 44, numberAt 8 b 52)

@@ -6,12 +6,11 @@ use mathlib.Core.Option.{Option, none, some}
 use Rattle.octets.specs.Bytes.{Bytes, ascii}
 use Rattle.definition.specs.Value.{ObjectValue, RaiseHeadValue, KeyValue, RaiseValue}
 use Rattle.definition.specs.Twins.{beforeText, TwinRaises}
-use Rattle.definition.specs.Laws.Table.Calls as Calls
-use Rattle.definition.specs.Laws.Table.Calls.{sent, absent, present, tenant, raise}
+use Rattle.definition.specs.Laws.Table.Calls.{sent, absent, present, tenant, sentBeforeText, raise}
 use Rattle.definition.specs.Laws.Table.Computed.{parsed}
 
 abbrev fields : Bytes
-fields = Calls.beforeText 0 "a" "lease-lost" (tenant "a") absent
+fields = sentBeforeText 0 "a" "lease-lost" (tenant "a") absent
 
 abbrev head : RaiseHeadValue
 head = record { time = 0; id = ascii "a"; type = ascii "t"; severity = 3 }
