@@ -1,5 +1,8 @@
 -- The cases marked *, proved by computation of the definition. Nothing cites them.
+pub mod Calls
+pub mod Shown
+pub mod Computed
+pub mod Stations
 pub mod Key
-pub mod Causes
-pub mod Steps
 pub mod Marked
+pub mod TwinRaises

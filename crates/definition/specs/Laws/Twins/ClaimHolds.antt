@@ -1,4 +1,4 @@
--- Demand 3's claim holds. For the theorem on whole lists in `station`.
+-- Demand 3's claim holds. For the theorem on whole lists in `station`; `step-legal` also for the table of the cases marked *.
 use Prim.Native.Nat.{ℕ, _+_, _*_}
 use mathlib.Core.Path.{_≡_, refl, sym, ap, ap₂, _∙_, subst}
 use mathlib.Core.List.{List, [], _∷_, map}
@@ -111,7 +111,7 @@ twin-reply {op = op} b b′ t g g′ (both {a = x} {b = x′} q) = record {
 twin-reply b b′ t g g′ (neither k) = record { number = refl; sized = refl; sized′ = refl; length = refl; answer = refl; register = t }
 
 -- the reply from a legal station's bytes
-step-legal : (b : Bytes) (s : Station) (c : Bytes) (n : ℕ) → LegalStation s → b ≡ encode s → stepOf b c n ≡ replyOf b (perform (parseCall c) n s)
+pub step-legal : (b : Bytes) (s : Station) (c : Bytes) (n : ℕ) → LegalStation s → b ≡ encode s → stepOf b c n ≡ replyOf b (perform (parseCall c) n s)
 unfolding stepOf
 step-legal b s c n l e =
     let h : sound b ≡ true = rw e (holds (sound (encode s)) (legal-sound s l)) in

@@ -1,0 +1,65 @@
+-- The bytes of the table's calls, field by field as "The call enters" lists them: "operation byte, then fields in order, nothing after".
+-- For the rows of Marked, and for the twins in TwinRaises.
+use Prim.Native.Nat.{ℕ}
+use Prim.Native.String.{String}
+use mathlib.Core.List.{[], _∷_, _++_}
+use lib.ListN.{length}
+use Rattle.octets.specs.Bytes.{Bytes, ascii, be32, be64}
+use Rattle.definition.specs.Slot.{join}
+
+-- ---- fields
+
+abbrev pub byte : ℕ → Bytes
+byte b = b ∷ []
+
+-- "A string is a u32 length and its bytes"
+abbrev pub sent : String → Bytes
+sent s = be32 (length (ascii s)) ++ ascii s
+
+-- "byte 0, or byte 1 and the string"
+abbrev pub absent : Bytes
+absent = byte 0
+
+abbrev pub present : String → Bytes
+present s = 1 ∷ sent s
+
+-- an object's kind, "with its strings in order": 1 NfInstance, 6 Tenant
+abbrev pub instance : String → String → Bytes
+instance a b = 1 ∷ (sent a ++ sent b)
+
+abbrev pub tenant : String → Bytes
+tenant a = 6 ∷ sent a
+
+-- ---- "1 raise: time, id, type, severity, cause, object, tenant?, slice?, region?, text, details?"
+
+-- those before the text: type `t`, severity 3, no slice, no region
+abbrev pub sentBeforeText : ℕ → String → String → Bytes → Bytes → Bytes
+sentBeforeText time id cause object tenant? =
+    join (be64 time ∷ sent id ∷ sent "t" ∷ byte 3 ∷ sent cause ∷ object ∷ tenant? ∷ absent ∷ absent ∷ [])
+
+-- no text, no details
+abbrev pub raiseOf : ℕ → String → String → Bytes → Bytes → Bytes
+raiseOf time id cause object tenant? = 1 ∷ (sentBeforeText time id cause object tenant? ++ (sent "" ++ absent))
+
+-- lease-lost on a tenant object
+abbrev pub raise : ℕ → String → String → Bytes
+raise time id object = raiseOf time id "lease-lost" (tenant object) absent
+
+-- ---- "2 clear: time, type, cause, object, tenant?, slice?, region?": what `raise` raised
+abbrev pub clear : ℕ → String → Bytes
+clear time object =
+    join (byte 2 ∷ be64 time ∷ sent "t" ∷ sent "lease-lost" ∷ tenant object ∷ absent ∷ absent ∷ absent ∷ [])
+
+-- ---- "3 acknowledge: time, id, authorised (0 or 1)"
+abbrev pub acknowledge : String → ℕ → Bytes
+acknowledge id authorised = join (byte 3 ∷ be64 0 ∷ sent id ∷ byte authorised ∷ [])
+
+-- ---- "5 .. with policy: time, id, principal, tenant?, reason, scope, correlation?, critical-allowed (0 or 1), authorised (0 or 1), denial
+-- ---- message": principal `p`, no reason, scope 2, "global", denial `no`
+abbrev pub acknowledgeByPolicy : String → ℕ → Bytes
+acknowledgeByPolicy id authorised =
+    join (byte 5 ∷ be64 0 ∷ sent id ∷ sent "p" ∷ absent ∷ sent "" ∷ byte 2 ∷ absent ∷ byte 0 ∷ byte authorised ∷ sent "no" ∷ [])
+
+-- ---- "7 expire: cutoff time"
+abbrev pub expire : ℕ → Bytes
+expire cutoff = join (byte 7 ∷ be64 cutoff ∷ [])

@@ -1,0 +1,82 @@
+-- A list of calls on a legal station's bytes goes from station to station: a reply is what `perform` gives on the station, and its register
+-- is the next one's bytes. So rows of the table are computed without testing 10,752 bytes for soundness at each call. For Marked.
+use Prim.Native.Nat.{ℕ, zero, suc}
+use mathlib.Core.Path.{_≡_, refl, ap, _∙_}
+use mathlib.Core.List.{List, [], _∷_, map}
+use mathlib.Core.Bool.{Bool, true, _&&_}
+use native.Mathlib.Omega.{arith}
+use lib.Dec.{T, ltb, ltb→lt}
+use Rattle.octets.specs.Bytes.{Bytes, Octets}
+use Rattle.octets.specs.BoolLaws.{both-left, both-right}
+use Rattle.definition.specs.Parse.{parseCall}
+use Rattle.definition.specs.Chain.{upFrom}
+use Rattle.definition.specs.Station.{Station, Outcome, done, stopped, fresh}
+use Rattle.definition.specs.Answer.{Answer}
+use Rattle.definition.specs.Perform.{perform}
+use Rattle.definition.specs.Sound.{encode}
+use Rattle.definition.specs.Lists.{Reply, replyOf, run}
+use Rattle.definition.specs.Contracts.LegalStation.{LegalStation}
+use Rattle.definition.specs.Laws.Text.ParsedLegal.{call-legal}
+use Rattle.definition.specs.Laws.Steps.StationBook.{fresh-legalStation}
+use Rattle.definition.specs.Laws.Twins.KeptLegal.{Answered, perform-legal}
+use Rattle.definition.specs.Laws.Twins.ClaimHolds.{step-legal}
+use Rattle.definition.specs.Laws.Table.Computed.{keyed, parsed, performed, written}
+use Rattle.definition.specs.Laws.Table.Shown.{ample, repliesTo, offsets}
+
+-- ---- that calls are bytes, by a test
+
+unfoldable pub areOctets : Bytes → Bool
+areOctets [] = true
+areOctets (b ∷ s) = ltb b 256 && areOctets s
+
+octets : (s : Bytes) → T (areOctets s) → Octets s
+unfolding areOctets
+octets [] h i = omega arith
+octets (b ∷ s) h zero = ltb→lt b 256 (both-left (ltb b 256) (areOctets s) h)
+octets (b ∷ s) h (suc i) = octets s (both-right (ltb b 256) (areOctets s) h) i
+
+unfoldable pub allOctets : List (Bytes × ℕ) → Bool
+unfolding areOctets
+allOctets [] = true
+allOctets (p ∷ l) = areOctets (p .0) && allOctets l
+
+-- ---- from station to station
+
+abbrev pub stationAfter : Station → Outcome Answer → Station
+stationAfter s (done x t) = t
+stationAfter s (stopped n) = s
+
+legal-after : (b : Bool) {s : Station} (o : Outcome Answer) → LegalStation s → Answered b s o → LegalStation (stationAfter s o)
+legal-after b (done x t) l p = p .0
+legal-after b (stopped n) l p = l
+
+register-after : (s : Station) (o : Outcome Answer) → replyOf (encode s) o .register ≡ encode (stationAfter s o)
+register-after s (done x t) = refl
+register-after s (stopped n) = refl
+
+unfoldable pub replies : Station → List (Bytes × ℕ) → List Reply
+replies s [] = []
+replies s (p ∷ l) =
+    let o = perform (parseCall (p .0)) (p .1) s in
+    replyOf (encode s) o ∷ replies (stationAfter s o) l
+
+pub run-legal : (l : List (Bytes × ℕ)) (s : Station) → LegalStation s → T (allOctets l) → run l (encode s) ≡ replies s l
+unfolding run replies allOctets
+run-legal [] s h t = refl
+run-legal (p ∷ l) s h t =
+    let o = perform (parseCall (p .0)) (p .1) s in
+    let c = call-legal (p .0) (octets (p .0) (both-left (areOctets (p .0)) (allOctets l) t)) in
+    rw (step-legal (encode s) s (p .0) (p .1) h refl, register-after s o) (ap (_∷_ (replyOf (encode s) o))
+    (run-legal l (stationAfter s o) (legal-after _ o h (perform-legal (parseCall (p .0)) (p .1) s c h)) (both-right (areOctets (p .0)) (allOctets l) t)))
+
+-- ---- the table's calls
+
+-- the replies to them, opened whole
+unfoldable pub computed : List Bytes → List Reply
+unfolding replies fresh upFrom keyed parsed performed written offsets
+computed l = replies (fresh 2 3 1) (map ample l)
+
+-- what is read of the replies may be read of those that stations give
+pub by-stations : {A : Type 0} (read : List Reply → A) (l : List Bytes) {x : A} → T (allOctets (map ample l)) → read (computed l) ≡ x → read (repliesTo l) ≡ x
+unfolding computed repliesTo
+by-stations read l t e = ap read (run-legal (map ample l) (fresh 2 3 1) (fresh-legalStation 2 3 1 (omega arith) (omega arith) (omega arith)) t) ∙ e
