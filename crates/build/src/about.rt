@@ -3,6 +3,7 @@ use super::slots;
 use model::AffectedObject;
 use model::CauseSpan;
 use model::OptSpan;
+use model::Prefix;
 use model::Record;
 use model::Span;
 use record::AlarmAt;
@@ -17,17 +18,14 @@ ghost use Rattle.definition.specs.Record.{causeSlot, objectSlot};
 ghost use Rattle.model.specs.Meaning.{causePart, objectValue, within, optWithin, causeWithin, objectWithin};
 ghost use Rattle.build.specs.Stretch.{pairOf, singleOf, storeOf};
 
-// A string's length in a call.
-const LENGTH: usize = 4;
-
 // The cause in its stored form. It is put as a string of a call first.
 pub(crate) fn cause_into(p: &mut [u8], call: &[u8], c: CauseSpan)
     requires { ⌜ (length (now p) ≡ payloadWidth) × causeWithin (now call) c ⌝ }
     ensures { λ _. ⌜ now (p .exit) ≡ splice (now (p .entry)) 175 (causeSlot .put (causePart (now (call .entry)) c)) ⌝ }
 {
-    let mut string = [0u8; LENGTH + Record::CAUSE];
+    let mut string = [0u8; Prefix::LENGTH + Record::CAUSE];
     let e = strings::put_cause(&mut string, 0, call, c);
-    record::put_string(p, AlarmAt::CAUSE, Record::CAUSE, &string[LENGTH..e]);
+    record::put_string(p, AlarmAt::CAUSE, Record::CAUSE, &string[Prefix::LENGTH..e]);
 }
 
 // ---- the affected object

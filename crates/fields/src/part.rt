@@ -16,6 +16,7 @@ use super::string_at;
 use cause::Cause;
 use model::CauseSpan;
 use model::OptSpan;
+use model::Prefix;
 use model::Record;
 use model::Span;
 ghost use mathlib.Core.Path.{_≡_};
@@ -87,7 +88,7 @@ pub fn read_choice(left: &[u8], lo: u8, hi: u8) -> ByteRead
 fn read_blob(left: &[u8], limit: usize) -> SpanRead
     ensures { λ r. ⌜ TakesString (now (left .entry)) (blob limit) limit r ⌝ }
 {
-    let n = read_number(left, 4);
+    let n = read_number(left, Prefix::LENGTH);
     let len = n.value as usize;
     let next = n.next;
     bytes_at(left, refuse_unless(next, len <= limit, 26), len)

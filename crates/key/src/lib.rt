@@ -9,6 +9,7 @@ use model::AffectedObject;
 use model::KeyFields;
 use model::OptSpan;
 use model::Places;
+use model::Prefix;
 use model::Record;
 use model::Span;
 use model::part;
@@ -27,21 +28,20 @@ ghost use Rattle.key.specs.Hashed.{hashedWidth, Room, taggedOne, taggedT
 
 // ---- the width of what is hashed, from the record's limits
 
-// In front of a string its length, in front of an optional one a byte besides.
-const LENGTH: usize = 4;
-
-const MARK: usize = 1;
+// Type, each object string, tenant and slice.
+const STRING: usize = Prefix::LENGTH + Record::SHORT;
 
 // The longest object is of kind 8: the letters of its tag, which is the longest, two strings, and the digits of its queue.
 const TAG: usize = 14;
 
 const DIGITS: usize = 5;
 
-const OBJECT: usize = (LENGTH + TAG) + 2 * (LENGTH + Record::SHORT) + (LENGTH + DIGITS);
+const OBJECT: usize = (Prefix::LENGTH + TAG) + 2 * STRING + (Prefix::LENGTH + DIGITS);
 
-const PLACES: usize = 2 * (MARK + LENGTH + Record::SHORT) + (MARK + LENGTH + Record::REGION);
+const PLACES: usize = 2 * (Prefix::MARK + STRING)
+    + (Prefix::MARK + Prefix::LENGTH + Record::REGION);
 
-const HASHED: usize = (LENGTH + Record::SHORT) + (LENGTH + Record::CAUSE) + OBJECT + PLACES;
+const HASHED: usize = STRING + (Prefix::LENGTH + Record::CAUSE) + OBJECT + PLACES;
 
 // ---- options, as in a call
 
@@ -217,15 +217,15 @@ fn feed(buf: &mut [u8], call: &[u8], alarm_type: Span, k: KeyFields) -> usize
 }
 
 // The key of the alarm that a raise or a clear speaks of, from the call's type and key fields.
-pub fn key_of(call: &[u8], alarm_type: Span, k: KeyFields) -> [u8; 16]
+pub fn key_of(call: &[u8], alarm_type: Span, k: KeyFields) -> [u8; Record::KEY]
     requires { ⌜ within (now call) shortLimit «alarm_type» × KeyWithin (now call) k ⌝ }
     ensures { λ r. ⌜ r ≡ keyOf (part (now (call .entry)) «alarm_type») (keyValue (now (call .entry)) k) ⌝ }
 {
     let mut buf = [0u8; HASHED];
     let n = feed(&mut buf, call, alarm_type, k);
     let digest = sha256::sha256(&buf[..n]);
-    let mut key = [0u8; 16];
-    octets::put_bytes(&mut key, 0, &digest[..16]);
+    let mut key = [0u8; Record::KEY];
+    octets::put_bytes(&mut key, 0, &digest[..Record::KEY]);
     key
 }
 

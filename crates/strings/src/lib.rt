@@ -4,6 +4,7 @@
 // what it put, and promises by `Put` (octets) that it changed no other byte. A cause is put in its stored form: one of the 21 names, or
 // `other:` and the trimmed name, which the parser left in the call. A call's limits bound all lengths; who calls sees to the room.
 use model::CauseSpan;
+use model::Prefix;
 use model::Record;
 ghost use mathlib.Core.List.{[], _++_};
 ghost use Prim.Native.Nat.{_+_, _≤_, _<_};
@@ -20,7 +21,7 @@ pub fn put_string(buf: &mut [u8], at: usize, s: &[u8]) -> usize
 {
     let n = s.len();
     octets::put32(buf, at, n as u32);
-    let a = at + 4;
+    let a = at + Prefix::LENGTH;
     octets::put_bytes(buf, a, s);
     a + n
 }
@@ -37,16 +38,21 @@ fn put_name(buf: &mut [u8], at: usize, k: usize) -> usize
     put_string(buf, at, &name[..n])
 }
 
+// The letters of `other:`, and where the name stands behind them.
+const OTHER: usize = 6;
+
+const NAME: usize = Prefix::LENGTH + OTHER;
+
 // `other:` and the trimmed name.
 fn put_other(buf: &mut [u8], at: usize, name: &[u8]) -> usize
     requires { ⌜ (at + (4 + causeLimit) ≤ length (now buf)) × (6 + length (now name) ≤ causeLimit) ⌝ }
     ensures { λ r. ⌜ Put (now (buf .entry)) at (string (other ++ now (name .entry))) r (now (buf .exit)) ⌝ }
 {
     let n = name.len();
-    octets::put32(buf, at, (6 + n) as u32);
-    let mark = at + 4;
+    octets::put32(buf, at, (OTHER + n) as u32);
+    let mark = at + Prefix::LENGTH;
     octets::put_bytes(buf, mark, b"other:");
-    let behind = at + 10;
+    let behind = at + NAME;
     octets::put_bytes(buf, behind, name);
     behind + n
 }
