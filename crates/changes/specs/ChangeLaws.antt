@@ -7,7 +7,7 @@ use Rattle.definition.specs.Record.{lastActive, alarmBytes, readAlarm}
 use Rattle.definition.specs.Value.{Action}
 use Rattle.definition.specs.Steps.{actionState, updatedState, actedOn, clearedBy, expiredBy}
 use Rattle.history.specs.Meaning.{IsAlarm}
-use Rattle.history.specs.FoundLaws.{payload-bytes}
+use Rattle.history.specs.AlarmRecordLaws.{payload-bytes}
 use Rattle.changes.specs.Meaning.{Turns, NewsValue, updatedWith}
 
 module _ (p : Bytes) (i : IsAlarm lastActive p) where

@@ -35,7 +35,7 @@ use Rattle.history.specs.DoesLaws.{does-then, does-give, does-look, does-end}
 use Rattle.history.specs.Walk.{alarmAt}
 use Rattle.register.specs.WalkLaws.{along-start, along-here, along-parts, along-on, along-once, along-fits, along-link, along-next}
 use Rattle.history.specs.CountLaws.{those-hit, those-miss}
-use Rattle.history.specs.FoundLaws.{changed-payload, on-station, on-alarm, payload-legal}
+use Rattle.history.specs.AlarmRecordLaws.{changed-payload, on-station, on-alarm, payload-legal}
 use Rattle.answers.specs.AnswerLaws.{answers-put}
 use Rattle.expiry.specs.Sweep.{dueOf, Swept, Sweep}
 use Rattle.expiry.specs.declared.Stand.{Stand}

@@ -2,7 +2,7 @@ pub mod Meaning
 pub mod StandingLaws
 pub mod Walk
 pub mod DoesLaws
-pub mod FoundLaws
+pub mod AlarmRecordLaws
 pub mod WalkLaws
 pub mod CountLaws
 pub mod FileLaws

@@ -25,7 +25,7 @@ use Rattle.definition.specs.Contracts.Does.{Does, Answers, Refuses}
 use Rattle.history.specs.Meaning.{IsAlarm, OnActive, Changes}
 use Rattle.register.specs.Search.{alarmAt}
 use Rattle.history.specs.DoesLaws.{does-then, does-look, does-yes, does-no}
-use Rattle.history.specs.FoundLaws.{alarm-payload, payload-as, changed-payload}
+use Rattle.history.specs.AlarmRecordLaws.{alarm-payload, payload-as, changed-payload}
 use Rattle.answers.specs.AnswerLaws.{alarm-as, answers-put}
 use Rattle.changes.specs.Meaning.{updatedWith, newsIn, updated-with}
 use Rattle.reply.specs.declared.Reply.{Reply}

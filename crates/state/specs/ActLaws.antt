@@ -25,7 +25,7 @@ use Rattle.definition.specs.Contracts.Does.{Does, Answers}
 use Rattle.history.specs.Meaning.{IsAlarm, OnActive, Changes}
 use Rattle.register.specs.Search.{alarmAt}
 use Rattle.history.specs.DoesLaws.{does-then, does-give, does-look, does-yes, does-no}
-use Rattle.history.specs.FoundLaws.{payload-as, changed-payload}
+use Rattle.history.specs.AlarmRecordLaws.{payload-as, changed-payload}
 use Rattle.answers.specs.AnswerLaws.{alarm-as, answer-as, answers-put}
 use Rattle.state.specs.Meaning.{plainOf, actionCode}
 

@@ -24,7 +24,7 @@ use Rattle.definition.specs.Contracts.Does.{Does, Answers}
 use Rattle.history.specs.Meaning.{IsAlarm, OnActive, Files}
 use Rattle.register.specs.Search.{alarmAt}
 use Rattle.history.specs.DoesLaws.{does-then, does-give}
-use Rattle.history.specs.FoundLaws.{payload-legal, on-alarm, changed-payload}
+use Rattle.history.specs.AlarmRecordLaws.{payload-legal, on-alarm, changed-payload}
 use Rattle.answers.specs.AnswerLaws.{answer-as, answers-put}
 use Rattle.state.specs.Meaning.{clearedAt}
 

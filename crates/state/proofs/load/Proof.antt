@@ -12,7 +12,7 @@ use Rattle.definition.specs.Book.{recordOf}
 use Rattle.definition.specs.Sound.{sound}
 use Rattle.history.specs.Meaning.{IsAlarm, OnActive}
 use Rattle.register.specs.WalkLaws.{content-width, on-fits}
-use Rattle.history.specs.FoundLaws.{on-alarm}
+use Rattle.history.specs.AlarmRecordLaws.{on-alarm}
 use Rattle.state.proofs.load.Statement.{statement}
 use Rattle.state.proofs.load.Tie as tie
 
