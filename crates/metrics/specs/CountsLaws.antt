@@ -1,65 +1,65 @@
--- What stands at the places without a mark is the answer of operation 10.
+-- The entries of all first appearances are the answer of operation 10.
 use Prim.Native.Nat.{ℕ, _+_, _≤_, _<_}
 use mathlib.Core.Path.{_≡_, sym, ap, _∙_}
 use mathlib.Core.List.{List, [], map}
 use native.Mathlib.Omega.{arith}
 use lib.Dec.{T}
-use lib.ListN.{length, replicate, length-replicate}
-use Rattle.octets.specs.Bytes.{Bytes, zeros}
+use lib.ListN.{length}
+use Rattle.octets.specs.Bytes.{Bytes}
 use Rattle.octets.specs.Put.{Put}
 use Rattle.octets.specs.PutLaws.{put-as}
 use Rattle.definition.specs.Laws.Book.Contents.{length-map}
-use Rattle.definition.specs.Answer.{Answer, Counts, headOf, headBytes, countEntries}
-use Rattle.definition.specs.Reports.{Rating, rating, countOf, firstsFrom, tally, counts}
+use Rattle.definition.specs.Answer.{Answer, Counts, Count, headOf, headBytes, countEntries}
+use Rattle.definition.specs.Reports.{Rating, countOf, firstsFrom, tally, counts}
 use Rattle.definition.specs.Perform.{inLength}
 use Rattle.definition.specs.Sound.{station, sound}
 use Rattle.definition.specs.Laws.Steps.Answers.{length-answer}
 use Rattle.definition.specs.Contracts.Does.{Does, Answers, Refuses}
 use Rattle.history.specs.DoesLaws.{does-look}
-use Rattle.history.specs.WalkLaws.{reached-length}
 use Rattle.answers.specs.AnswerLaws.{listHead, put-list}
 use Rattle.reply.specs.ReplyLaws.{answered, refused}
-use Rattle.history.specs.Walk.{alarmsOn}
-use Rattle.metrics.specs.Meaning.{ratings, settled, unmarked, entries, listing, Settled}
-use Rattle.metrics.specs.MarkLaws.{settled-firsts, Marked, settled-all}
+use Rattle.metrics.specs.Meaning.{ratings, unmarked, entries, listing, marksOf, rows, Rows}
+use Rattle.metrics.specs.MarkLaws.{firsts-unmarked}
+use Rattle.metrics.specs.RowLaws.{length-rows, rowEntries}
 
-pub settled-zeros : {b ms ns : Bytes} {n k at : ℕ} → Marked b settled ms ns n 0 k at → n ≤ k → ms ≡ zeros (length ms) → Settled (ratings b) ns
-settled-zeros {b} {ms} w l z =
+-- n entries, the bytes v
+pub record Entries (b : Bytes) (n : ℕ) (v : Bytes) : Type 0 where
+  pub amount : n ≡ length (tally (ratings b))
+  pub bytes : v ≡ countEntries (tally (ratings b))
+
+-- by a walk
+pub entries-walked : (b : Bytes) (n : ℕ) → n ≡ length (unmarked (ratings b) (marksOf b)) → Entries b n (listing b (marksOf b))
+unfolding tally entries
+entries-walked b n e =
+    let f = firsts-unmarked (ratings b) in
     record {
-      firsts =
-          ap (unmarked (ratings b)) (settled-all w l ∙ ap (settled (ratings b)) z)
-          ∙ settled-firsts (ratings b) (length ms) (omega (arith, reached-length (w .reached), w .room, w .size, length-map rating (alarmsOn 0 b)));
+      amount = e ∙ ap length f ∙ sym (length-map (countOf (ratings b)) (firstsFrom [] (ratings b)));
+      bytes = ap (λ (l : List Rating). countEntries (map (countOf (ratings b)) l)) f;
     }
 
--- no place is marked at first
-pub no-marks : (n : ℕ) → replicate n 0 ≡ zeros (length (replicate {A = ℕ} n 0))
-unfolding zeros
-no-marks n = ap (λ (m : ℕ). replicate m 0) (sym (length-replicate n 0))
+-- by rows
+pub entries-rows : {b : Bytes} {m n : ℕ} {is ns : List ℕ} → Rows b m is ns (tally (ratings b)) → m ≤ 1024 → n ≡ m → Entries b n (rowEntries b m is ns)
+entries-rows {b} {m} {n} {is} {ns} c h e =
+    let t = c .table h in
+    record {
+      amount = e ∙ sym (length-rows b m is ns (omega (arith, t .records)) (omega (arith, t .amounts))) ∙ ap length (c .rows-are h);
+      bytes = ap countEntries (c .rows-are h);
+    }
 
-module _ (b ms : Bytes) (s : Settled (ratings b) ms) where
+module _ {b v : Bytes} {n : ℕ} (s : Entries b n v) (h : T (sound b)) (a : Bytes) where
   abbrev answer : Answer
   answer = Counts (tally (ratings b))
 
-  entries-tally : length (unmarked (ratings b) ms) ≡ length (tally (ratings b))
-  unfolding tally
-  entries-tally = ap length (s .firsts) ∙ sym (length-map (countOf (ratings b)) (firstsFrom [] (ratings b)))
+  headed : headOf answer ≡ listHead n
+  headed = ap listHead (sym (s .amount))
 
-  bytes-tally : listing b ms ≡ countEntries (tally (ratings b))
-  unfolding tally entries
-  bytes-tally = ap (λ (l : List Rating). countEntries (map (countOf (ratings b)) l)) (s .firsts)
+  counted : Does counts b b answer
+  unfolding counts
+  counted = does-look b _ h
 
-  module _ (n : ℕ) (en : n ≡ length (unmarked (ratings b) ms)) where
-    headed : headOf answer ≡ listHead n
-    headed = ap listHead (sym (en ∙ entries-tally))
+  pub counts-refused : length a < 16 + length v → Refuses (inLength (length a) counts) b b a a 30
+  counts-refused l = refused counts b a answer (station b) (counted .step) (omega (arith, length-answer answer, ap length (s .bytes)))
 
-    module _ (h : T (sound b)) (a : Bytes) where
-      counted : Does counts b b answer
-      unfolding counts
-      counted = does-look b _ h
-
-      pub counts-refused : length a < 16 + length (listing b ms) → Refuses (inLength (length a) counts) b b a a 30
-      counts-refused l = refused counts b a answer (station b) (counted .step) (omega (arith, length-answer answer, ap length bytes-tally))
-
-      pub counts-answered :
-          (c d : Bytes) (r m : ℕ) → Put a 16 (listing b ms) r c → Put c 0 (headBytes (listHead n)) m d → Answers (inLength (length a) counts) b b a d r
-      counts-answered c d r m p q = answered counts b a answer b d r counted (put-list answer n headed (put-as bytes-tally p) q)
+  pub counts-answered :
+      (c d : Bytes) (r m : ℕ) → Put a 16 v r c → Put c 0 (headBytes (listHead n)) m d → Answers (inLength (length a) counts) b b a d r
+  counts-answered c d r m p q = answered counts b a answer b d r counted (put-list answer n headed (put-as (s .bytes) p) q)

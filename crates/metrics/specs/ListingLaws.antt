@@ -18,10 +18,11 @@ use Rattle.definition.specs.Answer.{Count, countEntries}
 use Rattle.definition.specs.Book.{recordOf}
 use Rattle.definition.specs.Reports.{Rating, rating, countOf}
 use Rattle.answers.specs.EntryLaws.{Begun, begun-none, begun-fits, begun-next, begun-all}
-use Rattle.history.specs.Walk.{alarmAt, Reached}
-use Rattle.history.specs.WalkLaws.{reached-next, field-here, field-end}
-use Rattle.metrics.specs.Meaning.{ratings, ratingAt, unmarked, entryBytes, entryAt, entries, listing, listingFrom, sizeAt}
-use Rattle.metrics.specs.MarkLaws.{mark-here}
+use Rattle.definition.specs.Laws.Book.Contents.{length-map}
+use Rattle.history.specs.Walk.{alarmAt, alarmsOn, Reached}
+use Rattle.history.specs.WalkLaws.{reached-next, reached-length, field-here, field-end}
+use Rattle.metrics.specs.Meaning.{ratings, ratingAt, isNew, markOf, marksOf, unmarked, entryBytes, entryAt, entries, listing, listingFrom, sizeAt}
+use Rattle.metrics.specs.MarkLaws.{mark-here, length-marks, mark-is}
 
 -- ---- place by place
 
@@ -56,14 +57,14 @@ module _ (b : Bytes) (k : ℕ) (ms : Bytes) where
 
 -- ---- how long an entry is
 
-length-entry : (c : Count) → length (entryBytes c) ≡ 9 + length (c .cause)
+pub length-entry : (c : Count) → length (entryBytes c) ≡ 9 + length (c .cause)
 length-entry c = omega (arith, length-append (be32 (c .amount)) (string (c .cause)), length-be32 (c .amount), length-string (c .cause))
 
 -- a string with its length in a slot of 98 bytes
 short : (n : ℕ) (s : Bytes) → length (take n (drop 2 (take 98 s))) ≤ 96
 short n s = omega (arith, length-take n (drop 2 (take 98 s)), length-drop 2 (take 98 s), length-take 98 s)
 
-cause-short : (b : Bytes) (i : ℕ) → length (alarmAt b i .about .cause) ≤ 96
+pub cause-short : (b : Bytes) (i : ℕ) → length (alarmAt b i .about .cause) ≤ 96
 unfolding readAlarm cut
 cause-short b i =
     let s = drop 175 (recordOf b i .content) in
@@ -90,6 +91,14 @@ entry-fits b i m at n s z e f =
     let g : at + length (entryBytes (countOf (ratings b) (ratingAt b i))) ≤ n = rw (eq-eqb m 0 z) at f in
     (omega (arith, g, length-entry (countOf (ratings b) (ratingAt b i)), ap length e), omega (arith, cause-short b i, ap length e))
 
+-- ---- the marks of the places that a walk is at
+
+pub marks-room : {b : Bytes} {n k at : ℕ} → Reached b 0 n k at → n ≤ length (marksOf b)
+marks-room {b} w = omega (arith, reached-length w, length-map rating (alarmsOn 0 b), length-marks [] (ratings b))
+
+pub mark-at : {b : Bytes} {n k at x : ℕ} → Reached b 0 n k at → k < n → x ≡ markOf (isNew (ratingAt b at) (take k (ratings b))) → x ≡ getD (marksOf b) k 0
+mark-at {b} {n} {k} {at} w l e = e ∙ sym (mark-is (ratings b) k (ratingAt b at) (field-here w l rating))
+
 -- ---- the sizes, found by a walk
 
 -- of n records k are passed: e entries, which end at place m of the answer
@@ -105,6 +114,13 @@ pub measured-none : {b : Bytes} (ms : Bytes) {n at : ℕ} → Reached b 0 n 0 at
 measured-none ms w h = record { reached = w; room = h; few = omega arith; small = omega arith; amount = omega arith; bytes = omega arith }
 
 module _ {b ms : Bytes} {n k at e m : ℕ} (w : Measured b ms n k at e m) where
+  -- by a mark x that was found
+  pub measured-size : {x d : ℕ} → x ≡ getD ms k 0 → d ≡ sizeAt (ratingAt b at) x → d ≡ sizeAt (ratingAt b at) (getD ms k 0)
+  measured-size ex ed = ed ∙ ap (sizeAt (ratingAt b at)) ex
+
+  pub measured-more : {x d : ℕ} → x ≡ getD ms k 0 → d ≡ cond (eqb x 0) (e + 1) e → d ≡ cond (eqb (getD ms k 0) 0) (e + 1) e
+  measured-more ex ed = ed ∙ ap (λ (z : ℕ). cond (eqb z 0) (e + 1) e) ex
+
   module _ (l : k < n) {d : ℕ} (ed : d ≡ sizeAt (ratingAt b at) (getD ms k 0)) where
     added : d ≤ 105
     added = subst (λ (x : ℕ). x ≤ 105) (sym ed) (size-small b at (getD ms k 0))
@@ -163,6 +179,13 @@ module _ {b ms a c : Bytes} {n k at m : ℕ} (w : Written b ms a c n k at m) whe
     -- the next entry fits
     pub written-fits : m + length piece ≤ length c
     written-fits = begun-fits (w .begun) piece (listingFrom (k + 1) b ms) starts
+
+    -- by a mark x that was found
+    pub written-fits-by : {x : ℕ} → x ≡ getD ms k 0 → m + length (entryAt b (ratingAt b at) x) ≤ length c
+    written-fits-by ex = subst (λ (z : ℕ). m + length (entryAt b (ratingAt b at) z) ≤ length c) (sym ex) written-fits
+
+    pub written-by : {x r : ℕ} {d : Bytes} → x ≡ getD ms k 0 → Put c m (entryAt b (ratingAt b at) x) r d → Put c m piece r d
+    written-by {x} {r} {d} ex p = subst (λ (z : ℕ). Put c m (entryAt b (ratingAt b at) z) r d) ex p
 
     pub written-next : {d : Bytes} {m′ r : ℕ} → Put c m piece m′ d → r ≡ at32 b (1536 * at) → Written b ms a d n (k + 1) r m′
     written-next p er = record { reached = reached-next (w .reached) l er; room = w .room; begun = begun-next (w .begun) piece (listingFrom (k + 1) b ms) starts p }

@@ -1,14 +1,15 @@
--- What the code says of the active chain: which ratings appear first, and their entries in the answer.
-use Prim.Native.Nat.{ℕ, _+_, _*_, _≤_}
+-- What the code says of the active chain: the tally of its ratings, by rows and by a walk, and the entries in the answer.
+use Prim.Native.Nat.{ℕ, zero, suc, _+_, _*_, _≤_, _<_}
 use mathlib.Core.Path.{_≡_}
 use mathlib.Core.List.{List, [], _∷_, _++_, map}
-use mathlib.Core.Bool.{cond}
+use mathlib.Core.Bool.{Bool, true, false, cond}
 use lib.Dec.{eqb}
-use lib.ListN.{length, take, drop}
+use lib.ListN.{length, take, drop, getD}
 use Rattle.octets.specs.Bytes.{Bytes, be32}
+use Rattle.definition.specs.Chain.{those}
 use Rattle.definition.specs.Key.{string}
 use Rattle.definition.specs.Answer.{Count, countEntries}
-use Rattle.definition.specs.Reports.{Rating, rating, sameRating, countOf, firstsFrom}
+use Rattle.definition.specs.Reports.{Rating, rating, sameRating, countOf}
 use Rattle.history.specs.Walk.{alarmAt, alarmsOn}
 
 -- ---- the active chain
@@ -25,33 +26,72 @@ ratings b = map rating (alarmsOn 0 b)
 abbrev pub ratingAt : Bytes → ℕ → Rating
 ratingAt b i = rating (alarmAt b i)
 
--- ---- marks of places on the active chain: 0 where a rating appears first, else 1
+-- ---- rows: a rating, by the record in which it appears first, and how often it appears
 
--- marked wherever p appears
-unfoldable pub marking : Rating → List Rating → Bytes → Bytes
-marking p [] ms = ms
-marking p (q ∷ l) [] = []
-marking p (q ∷ l) (m ∷ ms) = cond (sameRating q p) 1 m ∷ marking p l ms
+abbrev pub counted : Rating → ℕ → Count
+counted q n = record { severity = q .0; amount = n; cause = q .1 }
 
--- in order, what stands at a place without a mark is marked wherever it appears behind
-unfoldable pub settled : List Rating → Bytes → Bytes
-settled [] ms = ms
-settled (q ∷ l) [] = []
-settled (q ∷ l) (m ∷ ms) = m ∷ settled l (cond (eqb m 0) (marking q l ms) ms)
+abbrev pub ratingOf : Count → Rating
+ratingOf c = (c .severity, c .cause)
 
--- such a change from place k on
-abbrev pub fromPlace : (List Rating → Bytes → Bytes) → ℕ → List Rating → Bytes → Bytes
-fromPlace f k l ms = take k ms ++ f (drop k l) (drop k ms)
+-- a rating is added
+unfoldable pub adding : List Count → Rating → List Count
+adding [] q = counted q 1 ∷ []
+adding (c ∷ t) q = cond (sameRating (ratingOf c) q) (counted (ratingOf c) (c .amount + 1) ∷ t) (c ∷ adding t q)
+
+unfoldable pub addingAll : List Count → List Rating → List Count
+addingAll t [] = t
+addingAll t (q ∷ l) = addingAll (adding t q) l
+
+-- the first m of a table: records `is`, amounts `ns`
+unfoldable pub rows : Bytes → ℕ → List ℕ → List ℕ → List Count
+rows b zero is ns = []
+rows b (suc m) [] ns = []
+rows b (suc m) (i ∷ is) [] = []
+rows b (suc m) (i ∷ is) (n ∷ ns) = counted (ratingAt b i) n ∷ rows b m is ns
+
+-- their records lie in the register
+abbrev pub AllFit : Bytes → ℕ → List ℕ → Type 0
+AllFit b m is = (j : ℕ) → j < m → Fits b (getD is j 0)
+
+-- the row of a rating among the first m: none before r has it, and r has it unless it is m
+pub record Row (b : Bytes) (is : List ℕ) (m : ℕ) (q : Rating) (r : ℕ) : Type 0 where
+  pub within : r ≤ m
+  pub before : (j : ℕ) → j < r → sameRating (ratingAt b (getD is j 0)) q ≡ false
+  pub here : r < m → sameRating (ratingAt b (getD is r 0)) q ≡ true
+
+-- a table of m rows
+pub record Table (b : Bytes) (m : ℕ) (is ns : List ℕ) : Type 0 where
+  pub room : m ≤ 1024
+  pub fit : AllFit b m is
+  pub records : length is ≡ 1024
+  pub amounts : length ns ≡ 1024
+
+-- r rows, which are t; or r is above 1,024, and nothing is said
+pub record Rows (b : Bytes) (r : ℕ) (is ns : List ℕ) (t : List Count) : Type 0 where
+  pub table : r ≤ 1024 → Table b r is ns
+  pub rows-are : r ≤ 1024 → rows b r is ns ≡ t
+
+-- ---- by a walk: marks of places on the active chain, 0 where a rating appears first, else 1
+
+abbrev pub isNew : Rating → List Rating → Bool
+isNew q seen = eqb (length (those (sameRating q) seen)) 0
+
+abbrev pub markOf : Bool → ℕ
+markOf new = cond new 0 1
+
+unfoldable pub marksFrom : List Rating → List Rating → Bytes
+marksFrom seen [] = []
+marksFrom seen (q ∷ l) = markOf (isNew q seen) ∷ marksFrom (seen ++ (q ∷ [])) l
+
+abbrev pub marksOf : Bytes → Bytes
+marksOf b = marksFrom [] (ratings b)
 
 -- what stands at places without a mark
 unfoldable pub unmarked : List Rating → Bytes → List Rating
 unmarked [] ms = []
 unmarked (q ∷ l) [] = []
 unmarked (q ∷ l) (m ∷ ms) = cond (eqb m 0) (q ∷ unmarked l ms) (unmarked l ms)
-
--- the marks tell first appearances from others
-pub record Settled (l : List Rating) (ms : Bytes) : Type 0 where
-  pub firsts : unmarked l ms ≡ firstsFrom [] l
 
 -- ---- the answer
 
