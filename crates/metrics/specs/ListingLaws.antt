@@ -21,7 +21,7 @@ use Rattle.definition.specs.Reports.{Rating, rating, countOf, firstsFrom, tally
 use Rattle.answers.specs.EntryLaws.{Begun, begun-none, begun-length, begun-fits, begun-next, begun-all}
 use Rattle.history.specs.Walk.{alarmAt, Reached}
 use Rattle.history.specs.WalkLaws.{reached-next, field-here, field-end}
-use Rattle.metrics.specs.Meaning.{ratings, ratingAt, firsts, firstsAt, isFirst, counted, rows, rowRatings, Table, Covers, Tallied, entryBytes, sizes, sizeIf, listing, rowEntries, listingFrom, entryIf}
+use Rattle.metrics.specs.Meaning.{ratings, ratingAt, firsts, firstsAt, isFirst, counted, mostRows, rows, rowRatings, Table, Covers, Tallied, entryBytes, sizes, sizeIf, listing, rowEntries, listingFrom, entryIf}
 use Rattle.metrics.specs.FirstLaws.{firsts-split, firsts-next, firsts-end}
 use Rattle.metrics.specs.RowLaws.{length-rows, records-long, amounts-long, reached-as, covers-many}
 
@@ -97,7 +97,7 @@ module _ {b : Bytes} {m : ℕ} {is : List ℕ} {j e : ℕ} (hi : m ≤ length is
     unfolding sizes
     rest = ap sizes (rating-place b m j is hi h) ∙ ap (λ (x : Bytes). (9 + length x) + sizes (drop (j + 1) (rowRatings b m is))) (sym es)
 
-    pub sized-small : m ≤ 1024 → e + (9 + length s) ≤ 107536
+    pub sized-small : m ≤ mostRows → e + (9 + length s) ≤ 16 + 105 * mostRows
     sized-small hm = omega (arith, w .bytes, rest, sizes-small b (take m is), length-take m is)
 
     pub sized-next : {x : ℕ} → x ≡ e + (9 + length s) → Sized b m is (j + 1) x
@@ -182,8 +182,8 @@ size-small b i false = omega arith
 pub record Measured (b : Bytes) (n p k at e m : ℕ) : Type 0 where
   pub reached : Reached b 0 n k at
   pub passed : p ≤ k
-  pub few : e ≤ 1024 + k
-  pub small : m ≤ 16 + 105 * (1024 + k)
+  pub few : e ≤ mostRows + k
+  pub small : m ≤ 16 + 105 * (mostRows + k)
   pub amount : e + length (firstsAt k (ratings b)) ≡ length (firsts b)
   pub bytes : m + sizes (firstsAt k (ratings b)) ≡ 16 + sizes (firsts b)
 
@@ -210,7 +210,7 @@ measured-rows {b} {n} {p} {at} {m} {is} w en {c} {e} ec ee =
 
 module _ {b : Bytes} {n p k at e m : ℕ} (w : Measured b n p k at e m) (l : k < n) {t : Bool} (et : t ≡ isFirst b k at) {d : ℕ} (ed : d ≡ sizeIf t (ratingAt b at)) where
   -- where the next entry ends
-  pub measured-small : m + d ≤ 16 + 105 * (1024 + n)
+  pub measured-small : m + d ≤ 16 + 105 * (mostRows + n)
   measured-small = omega (arith, w .small, size-small b at t, ed)
 
   pub measured-next : {e′ r : ℕ} → e′ ≡ cond t (e + 1) e → r ≡ at32 b (1536 * at) → Measured b n p (k + 1) r e′ (m + d)
@@ -227,7 +227,7 @@ module _ {b : Bytes} {n p k at e m : ℕ} (w : Measured b n p k at e m) (l : k <
         bytes = omega (arith, size-next b k at here, w .bytes, size);
       }
     where
-      one : (s : Bool) → cond s (e + 1) e ≤ 1024 + (k + 1)
+      one : (s : Bool) → cond s (e + 1) e ≤ mostRows + (k + 1)
       one true = omega (arith, w .few)
       one false = omega (arith, w .few)
 

@@ -49,6 +49,10 @@ isFirst b k i = isNew (ratingAt b i) (take k (ratings b))
 
 -- ---- a table: records `is`, amounts `ns`; its first m rows
 
+-- the most that it has room for
+abbrev pub mostRows : ℕ
+mostRows = 1024
+
 abbrev pub counted : Rating → ℕ → Count
 counted q n = record { severity = q .0; amount = n; cause = q .1 }
 
@@ -70,10 +74,10 @@ abbrev pub AllWithin : ℕ → ℕ → List ℕ → Type 0
 AllWithin k m ns = (j : ℕ) → j < m → getD ns j 0 ≤ k
 
 pub record Table (b : Bytes) (m : ℕ) (is ns : List ℕ) : Type 0 where
-  pub room : m ≤ 1024
+  pub room : m ≤ mostRows
   pub fit : AllFit b m is
-  pub records : length is ≡ 1024
-  pub amounts : length ns ≡ 1024
+  pub records : length is ≡ mostRows
+  pub amounts : length ns ≡ mostRows
 
 -- the row of a rating among the first m: none before r has it, and r has it unless it is m
 pub record Row (b : Bytes) (is : List ℕ) (m : ℕ) (q : Rating) (r : ℕ) : Type 0 where
@@ -101,9 +105,9 @@ pub record Collected (b : Bytes) (n k at m : ℕ) (is ns : List ℕ) : Type 0 wh
 -- the rows have the ratings that appear first at the places before p, at which record `at` stands
 pub record Covers (b : Bytes) (p at m : ℕ) (is : List ℕ) : Type 0 where
   pub reached : Reached b 0 (at32 b 16) p at
-  pub room : m ≤ 1024
+  pub room : m ≤ mostRows
   pub fit : AllFit b m is
-  pub records : length is ≡ 1024
+  pub records : length is ≡ mostRows
   pub firsts-are : rowRatings b m is ≡ firstsFrom [] (take p (ratings b))
 
 -- the rows are the first of the whole tally

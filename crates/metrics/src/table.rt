@@ -9,7 +9,7 @@ ghost use lib.ListN.{length, getD};
 ghost use Rattle.octets.specs.Bytes.{at32};
 ghost use Rattle.octets.specs.Put.{Put};
 ghost use Rattle.definition.specs.Sound.{sound};
-ghost use Rattle.metrics.specs.Meaning.{Fits, ratingAt, AllFit, Row, Table, Noted, Raised, Collected, Tallied, rowRatings, rowEntries, sizes};
+ghost use Rattle.metrics.specs.Meaning.{Fits, ratingAt, mostRows, AllFit, Row, Table, Noted, Raised, Collected, Tallied, rowRatings, rowEntries, sizes};
 use super::rating;
 use register::ACTIVE;
 
@@ -25,7 +25,7 @@ pub(crate) struct Covered {
 
 // The row among the first m that has the rating of record i's alarm; m for none.
 pub(crate) fn row_of(register: &[u8], records: &[u32; ROOM], m: usize, i: u32) -> usize
-    requires { ⌜ (m ≤ 1024) × AllFit (now register) m (now records) × Fits (now register) i ⌝ }
+    requires { ⌜ (m ≤ mostRows) × AllFit (now register) m (now records) × Fits (now register) i ⌝ }
     ensures { λ r.
         ⌜ Row (now (register .entry)) (now (records .entry)) m (ratingAt (now (register .entry)) i) r ⌝ }
 {
@@ -39,15 +39,25 @@ pub(crate) fn row_of(register: &[u8], records: &[u32; ROOM], m: usize, i: u32) -
     m
 }
 
-// Adds record i's alarm to the first m rows, by its row j: to that row's amount, or as row m. Gives how many there are then.
-fn note(records: &mut [u32; ROOM], amounts: &mut [u32; ROOM], m: usize, j: usize, i: u32) -> usize
-    requires { ⌜ (j ≤ m) × (m ≤ 1024) × (j < 1024) × (j < m → getD (now amounts) j 0 < 4294967295) ⌝ }
-    ensures { λ r.
-        ⌜ Noted (now (records .entry)) (now (amounts .entry)) m j i r (now (records .exit)) (now (amounts .exit)) ⌝ }
+// Adds one to the amount of row j, where that is one of the first m.
+fn count_in(amounts: &mut [u32; ROOM], m: usize, j: usize)
+    requires { ⌜ (m ≤ mostRows) × (j < m → getD (now amounts) j 0 < 4294967295) ⌝ }
+    ensures { λ _. ⌜ Raised (now (amounts .entry)) m j (now (amounts .exit)) ⌝ }
 {
     if j < m {
         let n = amounts[j];
         amounts[j] = n + 1;
+    }
+}
+
+// Adds record i's alarm to the first m rows, by its row j: to that row's amount, or as row m. Gives how many there are then.
+fn note(records: &mut [u32; ROOM], amounts: &mut [u32; ROOM], m: usize, j: usize, i: u32) -> usize
+    requires { ⌜ (j ≤ m) × (m ≤ mostRows) × (j < mostRows) × (j < m → getD (now amounts) j 0 < 4294967295) ⌝ }
+    ensures { λ r.
+        ⌜ Noted (now (records .entry)) (now (amounts .entry)) m j i r (now (records .exit)) (now (amounts .exit)) ⌝ }
+{
+    if j < m {
+        count_in(amounts, m, j);
         return m;
     }
     records[m] = i;
@@ -61,7 +71,7 @@ pub(crate) fn collect(
     records: &mut [u32; ROOM],
     amounts: &mut [u32; ROOM],
 ) -> Covered
-    requires { ⌜ T (sound (now register)) × (length (now records) ≡ 1024) × (length (now amounts) ≡ 1024) ⌝ }
+    requires { ⌜ T (sound (now register)) × (length (now records) ≡ mostRows) × (length (now amounts) ≡ mostRows) ⌝ }
     ensures { λ r.
         ⌜ Collected
         (now (register .entry))
@@ -93,17 +103,6 @@ pub(crate) fn collect(
         rows: m,
         place: k,
         record: at,
-    }
-}
-
-// Adds one to the amount of row j, where that is one of the first m.
-fn count_in(amounts: &mut [u32; ROOM], m: usize, j: usize)
-    requires { ⌜ (m ≤ 1024) × (j < m → getD (now amounts) j 0 < 4294967295) ⌝ }
-    ensures { λ _. ⌜ Raised (now (amounts .entry)) m j (now (amounts .exit)) ⌝ }
-{
-    if j < m {
-        let n = amounts[j];
-        amounts[j] = n + 1;
     }
 }
 
@@ -139,7 +138,7 @@ pub(crate) fn count_on(
 
 // Where the entries of m rows end in the answer.
 pub(crate) fn rows_end(register: &[u8], records: &[u32; ROOM], m: usize) -> usize
-    requires { ⌜ (m ≤ 1024) × AllFit (now register) m (now records) × (length (now records) ≡ 1024) ⌝ }
+    requires { ⌜ (m ≤ mostRows) × AllFit (now register) m (now records) × (length (now records) ≡ mostRows) ⌝ }
     ensures { λ r. ⌜ r ≡ 16 + sizes (rowRatings (now (register .entry)) m (now (records .entry))) ⌝ }
 {
     let mut end = 16;

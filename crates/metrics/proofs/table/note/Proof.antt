@@ -5,13 +5,13 @@ use borrow.Author.Needs.{needs}
 use Rattle.metrics.proofs.table.note.Statement.{statement}
 use Rattle.metrics.proofs.table.note.Tie as tie
 
-add-amounts : tie.Need-add-amounts
-add-amounts c =
-    let i = c .before in
-    omega (arith, i .before .pre .3 (i .if1 .taken))
+count-in-requires : tie.Need-count-in-requires
+count-in-requires c κs =
+    let s = c .before .before in
+    (s .pre .1, s .pre .3)
 
 returns : tie.Need-returns
-returns c = record { row = λ h. (refl, refl, refl); new = λ h. absurd (omega (arith, c .before .if1 .taken)) }
+returns c = record { row = λ h. (refl, refl, c .count-in .ensures .row h); new = λ h. absurd (omega (arith, c .before .before .if1 .taken)) }
 
 returns-2 : tie.Need-returns-2
 returns-2 c = record { row = λ h. absurd (omega (arith, c .if1 .left)); new = λ h. (refl, refl, refl) }
@@ -20,11 +20,7 @@ pub note-spec : {M : Type 1} → statement M
 note-spec =
     tie.close
     (tie.spec
-    (λ c. search needs)
-    (λ c. search needs)
-    add-amounts
-    (λ c. search needs)
-    (λ c. search needs)
+    count-in-requires
     returns
     (λ c. search needs)
     (λ c. search needs)
