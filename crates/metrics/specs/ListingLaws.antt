@@ -21,9 +21,9 @@ use Rattle.definition.specs.Reports.{Rating, rating, countOf, firstsFrom, tally
 use Rattle.answers.specs.EntryLaws.{Begun, begun-none, begun-length, begun-fits, begun-next, begun-all}
 use Rattle.history.specs.Walk.{alarmAt, Reached}
 use Rattle.history.specs.WalkLaws.{reached-next, field-here, field-end}
-use Rattle.metrics.specs.Meaning.{ratings, ratingAt, firsts, firstsAt, isFirst, counted, mostRows, rows, rowRatings, Table, Covers, Tallied, entryBytes, sizes, sizeIf, listing, rowEntries, listingFrom, entryIf}
+use Rattle.metrics.specs.Meaning.{ratings, ratingAt, firsts, firstsAt, isFirst, counted, mostRows, rows, rowRatings, Covers, Tallied, entryBytes, sizes, sizeIf, listing, rowEntries, listingFrom, entryIf}
 use Rattle.metrics.specs.FirstLaws.{firsts-split, firsts-next, firsts-end}
-use Rattle.metrics.specs.RowLaws.{length-rows, records-long, amounts-long, reached-as, covers-many}
+use Rattle.metrics.specs.RowLaws.{table-many, table-place, reached-as, covers-many}
 
 -- ---- how long entries are
 
@@ -72,18 +72,6 @@ module _ (b : Bytes) (m j : ℕ) (is : List ℕ) (hi : m ≤ length is) where
   rating-end : m ≤ j → drop j (rowRatings b m is) ≡ []
   rating-end h = drop-of-length-le (rowRatings b m is) {i = j} (omega (arith, length-map (ratingAt b) (take m is), length-take m is))
 
-  module _ (ns : List ℕ) (hn : m ≤ length ns) where
-    row-place : j < m → drop j (rows b m is ns) ≡ counted (ratingAt b (getD is j 0)) (getD ns j 0) ∷ drop (j + 1) (rows b m is ns)
-    unfolding rows
-    row-place h = place m j is ns hi hn h ∙ ap (λ (x : ℕ). counted (ratingAt b (getD is j 0)) (getD ns j 0) ∷ drop x (rows b m is ns)) (sym (add-one j))
-      where
-        place : (m j : ℕ) (is ns : List ℕ) → m ≤ length is → m ≤ length ns → j < m → drop j (rows b m is ns) ≡ counted (ratingAt b (getD is j 0)) (getD ns j 0) ∷ drop (suc j) (rows b m is ns)
-        place zero j is ns hi hn h = absurd (omega arith)
-        place (suc m) j [] ns hi hn h = absurd (omega arith)
-        place (suc m) j (i ∷ is) [] hi hn h = absurd (omega arith)
-        place (suc m) zero (i ∷ is) (n ∷ ns) hi hn h = refl
-        place (suc m) (suc j) (i ∷ is) (n ∷ ns) hi hn h = place m j is ns (omega arith) (omega arith) (omega arith)
-
 -- where the entries of the first j rows end
 pub record Sized (b : Bytes) (m : ℕ) (is : List ℕ) (j e : ℕ) : Type 0 where
   pub bytes : e + sizes (drop j (rowRatings b m is)) ≡ 16 + sizes (rowRatings b m is)
@@ -109,11 +97,11 @@ module _ {b : Bytes} {m : ℕ} {is : List ℕ} {j e : ℕ} (hi : m ≤ length is
 
 -- the entries of the first j rows stand in the answer, which was a and is c, up to place e
 pub record Listed (b : Bytes) (m : ℕ) (is ns : List ℕ) (a c : Bytes) (j e : ℕ) : Type 0 where
-  pub table : Table b m is ns
+  pub tallied : Tallied b m is ns
   pub begun : Begun (rowEntries b m is ns) (countEntries (drop j (rows b m is ns))) a c e
 
-pub listed-none : {b : Bytes} {m : ℕ} {is ns : List ℕ} (a : Bytes) → Table b m is ns → 16 + length (rowEntries b m is ns) ≤ length a → Listed b m is ns a a 0 16
-listed-none a t h = record { table = t; begun = begun-none h }
+pub listed-none : {b : Bytes} {m : ℕ} {is ns : List ℕ} (a : Bytes) → Tallied b m is ns → 16 + length (rowEntries b m is ns) ≤ length a → Listed b m is ns a a 0 16
+listed-none a t h = record { tallied = t; begun = begun-none h }
 
 module _ {b : Bytes} {m : ℕ} {is ns : List ℕ} {a c : Bytes} {j e : ℕ} (w : Listed b m is ns a c j e) where
   module _ (h : j < m) where
@@ -125,19 +113,19 @@ module _ {b : Bytes} {m : ℕ} {is ns : List ℕ} {a c : Bytes} {j e : ℕ} (w :
 
     starts : countEntries (drop j (rows b m is ns)) ≡ row ++ behind
     unfolding countEntries
-    starts = ap countEntries (row-place b m j is (records-long (w .table)) ns (amounts-long (w .table)) h)
+    starts = ap countEntries (table-place (w .tallied .table) j h)
 
     -- the next entry and its cause s fit
     pub listed-fits : (s : Bytes) → s ≡ alarmAt b (getD is j 0) .about .cause → (e + (9 + length s) ≤ length c) × (length s < 4294967296)
     listed-fits s es = entry-fits b (getD is j 0) (getD ns j 0) e (length c) s es (begun-fits (w .begun) row behind starts)
 
     pub listed-next : {d : Bytes} {x : ℕ} → Put c e row x d → Listed b m is ns a d (j + 1) x
-    listed-next p = record { table = w .table; begun = begun-next (w .begun) row behind starts p }
+    listed-next p = record { tallied = w .tallied; begun = begun-next (w .begun) row behind starts p }
 
   pub listed-all : m ≤ j → Put a 16 (rowEntries b m is ns) e c
   unfolding countEntries
   listed-all h =
-      begun-all (w .begun) (ap countEntries (drop-of-length-le (rows b m is ns) {i = j} (omega (arith, length-rows b m is ns (records-long (w .table)) (amounts-long (w .table))))))
+      begun-all (w .begun) (ap countEntries (drop-of-length-le (rows b m is ns) {i = j} (omega (arith, table-many (w .tallied .table)))))
 
 -- ---- the places behind, one by one
 

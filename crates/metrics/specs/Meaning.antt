@@ -69,15 +69,13 @@ rowRatings b m is = map (ratingAt b) (take m is)
 abbrev pub AllFit : Bytes → ℕ → List ℕ → Type 0
 AllFit b m is = (j : ℕ) → j < m → Fits b (getD is j 0)
 
--- each of their amounts is k at most
-abbrev pub AllWithin : ℕ → ℕ → List ℕ → Type 0
-AllWithin k m ns = (j : ℕ) → j < m → getD ns j 0 ≤ k
-
-pub record Table (b : Bytes) (m : ℕ) (is ns : List ℕ) : Type 0 where
+-- a table made of k places, so that each of its amounts is k at most
+pub record Table (b : Bytes) (k m : ℕ) (is ns : List ℕ) : Type 0 where
   pub room : m ≤ mostRows
   pub fit : AllFit b m is
   pub records : length is ≡ mostRows
   pub amounts : length ns ≡ mostRows
+  pub small : (j : ℕ) → j < m → getD ns j 0 ≤ k
 
 -- the row of a rating among the first m: none before r has it, and r has it unless it is m
 pub record Row (b : Bytes) (is : List ℕ) (m : ℕ) (q : Rating) (r : ℕ) : Type 0 where
@@ -98,8 +96,7 @@ pub record Noted (is ns : List ℕ) (m j i r : ℕ) (is′ ns′ : List ℕ) : T
 -- of n places k are passed, the walk is at record `at`, and the rows are the tally of the places passed
 pub record Collected (b : Bytes) (n k at m : ℕ) (is ns : List ℕ) : Type 0 where
   pub reached : Reached b 0 n k at
-  pub table : Table b m is ns
-  pub small : AllWithin k m ns
+  pub table : Table b k m is ns
   pub rows-are : rows b m is ns ≡ tally (take k (ratings b))
 
 -- the rows have the ratings that appear first at the places before p, at which record `at` stands
@@ -110,9 +107,10 @@ pub record Covers (b : Bytes) (p at m : ℕ) (is : List ℕ) : Type 0 where
   pub records : length is ≡ mostRows
   pub firsts-are : rowRatings b m is ≡ firstsFrom [] (take p (ratings b))
 
--- the rows are the first of the whole tally
+-- the rows, made of so many places, are the first of the whole tally
 pub record Tallied (b : Bytes) (m : ℕ) (is ns : List ℕ) : Type 0 where
-  pub table : Table b m is ns
+  pub places : ℕ
+  pub table : Table b places m is ns
   pub rows-are : rows b m is ns ≡ take m (tally (ratings b))
 
 -- ---- the answer

@@ -1,7 +1,7 @@
 // A table of ratings by first appearance: for each the record in which it appears first, and how often it appears.
 //
-// `collect` makes it of the chain's first places, as far as there is room for their ratings; `count_on` counts the places
-// behind them in the rows. A rating is compared with the rows one by one.
+// `collect` makes it of the chain's first places, as far as there is room for their ratings; `count_on` counts the
+// places behind them in the rows. A rating is compared with the rows one by one.
 ghost use mathlib.Core.Path.{_≡_};
 ghost use Prim.Native.Nat.{_+_, _≤_, _<_};
 ghost use lib.Dec.{T};
@@ -9,7 +9,7 @@ ghost use lib.ListN.{length, getD};
 ghost use Rattle.octets.specs.Bytes.{at32};
 ghost use Rattle.octets.specs.Put.{Put};
 ghost use Rattle.definition.specs.Sound.{sound};
-ghost use Rattle.metrics.specs.Meaning.{Fits, ratingAt, mostRows, AllFit, Row, Table, Noted, Raised, Collected, Tallied, rowRatings, rowEntries, sizes};
+ghost use Rattle.metrics.specs.Meaning.{Fits, ratingAt, mostRows, AllFit, Row, Raised, Noted, Collected, Tallied, rowRatings, rowEntries, sizes};
 use super::rating;
 use register::ACTIVE;
 
@@ -50,7 +50,8 @@ fn count_in(amounts: &mut [u32; ROOM], m: usize, j: usize)
     }
 }
 
-// Adds record i's alarm to the first m rows, by its row j: to that row's amount, or as row m. Gives how many there are then.
+// Adds record i's alarm to the first m rows, by its row j: to that row's amount, or as row m. Gives how many there are
+// then.
 fn note(records: &mut [u32; ROOM], amounts: &mut [u32; ROOM], m: usize, j: usize, i: u32) -> usize
     requires { ⌜ (j ≤ m) × (m ≤ mostRows) × (j < mostRows) × (j < m → getD (now amounts) j 0 < 4294967295) ⌝ }
     ensures { λ r.
@@ -158,7 +159,7 @@ pub(crate) fn put_rows(
     m: usize,
     answer: &mut [u8],
 ) -> usize
-    requires { ⌜ Table (now register) m (now records) (now amounts)
+    requires { ⌜ Tallied (now register) m (now records) (now amounts)
         × (16 + length (rowEntries (now register) m (now records) (now amounts)) ≤ length (now answer)) ⌝ }
     ensures { λ r.
         ⌜ Put

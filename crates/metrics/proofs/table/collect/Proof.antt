@@ -41,7 +41,7 @@ note-requires c κs =
       within,
       w .table .room,
       omega (arith, i .if1 .left, w .table .room),
-      λ h. omega (arith, w .small _ h, reached-most (w .reached), t .loop-test .taken),
+      λ h. omega (arith, w .table .small _ h, reached-most (w .reached), t .loop-test .taken),
     )
 
 next-requires : tie.Need-next-requires Inv-loop μ-loop
@@ -56,9 +56,7 @@ loop-again c =
     let i = n .before .before .before in
     let r = i .before in
     let t = r .before .before in
-    let w = t .before .loop .inv in
-    let l = t .loop-test .taken in
-    collected-next w l (reached-fits (w .reached) l) (r .row-of .ensures) (i .if1 .left) (n .note .ensures) (c .next .ensures)
+    collected-next (t .before .loop .inv) (t .loop-test .taken) (r .row-of .ensures) (i .if1 .left) (n .note .ensures) (c .next .ensures)
 
 returns-2 : tie.Need-returns-2 Inv-loop μ-loop
 returns-2 c =

@@ -26,7 +26,7 @@ count-in-requires : tie.Need-count-in-requires Inv-loop μ-loop
 count-in-requires c κs =
     let t = c .before .before in
     let w = t .before .loop .inv in
-    (w .table .room, λ h. omega (arith, w .small _ h, reached-most (w .reached), t .loop-test .taken))
+    (w .table .room, λ h. omega (arith, w .table .small _ h, reached-most (w .reached), t .loop-test .taken))
 
 next-requires : tie.Need-next-requires Inv-loop μ-loop
 next-requires c κs =
@@ -38,7 +38,7 @@ loop-again c =
     let n = c .before in
     let r = n .before .before in
     let t = r .before in
-    counting-next (t .before .loop .inv) (t .loop-test .taken) (r .row-of .ensures) (n .count-in .ensures) (c .next .ensures)
+    counting-next (t .before .loop .inv) (t .loop-test .taken) (r .row-of .ensures) (c .next .ensures) (n .count-in .ensures)
 
 pub count-on-spec : {M : Type 1} → statement M
 count-on-spec =
