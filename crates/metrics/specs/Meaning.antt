@@ -19,7 +19,7 @@ abbrev pub Fits : Bytes → ℕ → Type 0
 Fits b i = 1536 * i + 1536 ≤ length b
 
 -- it stands at place k of the chain
-pub record Standing (b : Bytes) (k i : ℕ) : Type 0 where
+pub record AtPlace (b : Bytes) (k i : ℕ) : Type 0 where
   pub reached : Reached b 0 (at32 b 16) k i
   pub within : k < at32 b 16
 
@@ -84,7 +84,7 @@ pub record Row (b : Bytes) (is : List ℕ) (m : ℕ) (q : Rating) (r : ℕ) : Ty
   pub here : r < m → sameRating (ratingAt b (getD is r 0)) q ≡ true
 
 -- row j's amount is one more, where j is a row
-pub record Raised (ns : List ℕ) (m j : ℕ) (ns′ : List ℕ) : Type 0 where
+pub record Increased (ns : List ℕ) (m j : ℕ) (ns′ : List ℕ) : Type 0 where
   pub row : j < m → ns′ ≡ set ns j (getD ns j 0 + 1)
   pub none : m ≤ j → ns′ ≡ ns
 

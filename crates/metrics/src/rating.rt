@@ -3,6 +3,10 @@ ghost use mathlib.Core.Path.{_≡_};
 ghost use Rattle.definition.specs.Reports.{sameRating};
 ghost use Rattle.history.specs.Walk.{alarmAt};
 ghost use Rattle.metrics.specs.Meaning.{Fits, ratingAt};
+use model::Prefix;
+
+// An entry of operation 10 but the cause's letters: a severity, an amount in four bytes, and the length of the cause.
+pub(crate) const ENTRY: usize = 1 + 4 + Prefix::LENGTH;
 
 // The severity of record i's alarm.
 pub(crate) fn severity(register: &[u8], i: u32) -> u8

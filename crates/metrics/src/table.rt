@@ -9,8 +9,9 @@ ghost use lib.ListN.{length, getD};
 ghost use Rattle.octets.specs.Bytes.{at32};
 ghost use Rattle.octets.specs.Put.{Put};
 ghost use Rattle.definition.specs.Sound.{sound};
-ghost use Rattle.metrics.specs.Meaning.{Fits, ratingAt, mostRows, AllFit, Row, Raised, Noted, Collected, Tallied, rowRatings, rowEntries, sizes};
+ghost use Rattle.metrics.specs.Meaning.{Fits, ratingAt, mostRows, AllFit, Row, Increased, Noted, Collected, Tallied, rowRatings, rowEntries, sizes};
 use super::rating;
+use model::Answer;
 use register::ACTIVE;
 
 // The most rows.
@@ -42,7 +43,7 @@ pub(crate) fn row_of(register: &[u8], records: &[u32; ROOM], m: usize, i: u32) -
 // Adds one to the amount of row j, where that is one of the first m.
 fn count_in(amounts: &mut [u32; ROOM], m: usize, j: usize)
     requires { ⌜ (m ≤ mostRows) × (j < m → getD (now amounts) j 0 < 4294967295) ⌝ }
-    ensures { λ _. ⌜ Raised (now (amounts .entry)) m j (now (amounts .exit)) ⌝ }
+    ensures { λ _. ⌜ Increased (now (amounts .entry)) m j (now (amounts .exit)) ⌝ }
 {
     if j < m {
         let n = amounts[j];
@@ -142,10 +143,10 @@ pub(crate) fn rows_end(register: &[u8], records: &[u32; ROOM], m: usize) -> usiz
     requires { ⌜ (m ≤ mostRows) × AllFit (now register) m (now records) × (length (now records) ≡ mostRows) ⌝ }
     ensures { λ r. ⌜ r ≡ 16 + sizes (rowRatings (now (register .entry)) m (now (records .entry))) ⌝ }
 {
-    let mut end = 16;
+    let mut end = Answer::HEAD;
     let mut j = 0;
     while j < m {
-        end += 9 + rating::cause(register, records[j]).len();
+        end += rating::ENTRY + rating::cause(register, records[j]).len();
         j += 1;
     }
     end
@@ -169,7 +170,7 @@ pub(crate) fn put_rows(
         r
         (now (answer .exit)) ⌝ }
 {
-    let mut end = 16;
+    let mut end = Answer::HEAD;
     let mut j = 0;
     while j < m {
         let i = records[j];
