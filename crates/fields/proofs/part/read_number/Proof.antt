@@ -1,5 +1,5 @@
 -- `read_number` meets its contract: the bytes, and their value.
-use native.Mathlib.Nat.{le-trans}
+use native.Mathlib.Omega.{arith}
 use Rattle.definition.specs.Reader.{number}
 use Rattle.model.specs.PartLaws.{part-short}
 use Rattle.fields.specs.BytesLaws.{below-power}
@@ -12,7 +12,7 @@ use Rattle.fields.proofs.part.read_number.Tie as tie
 number-requires : tie.Need-number-requires
 number-requires c κs =
     let b = c .before .before .read-bytes in
-    le-trans (part-short _ _ (b .result .span) (c .part .ensures) (b .ensures .1)) (c .before .before .before .before .pre)
+    omega (arith, part-short _ _ (b .result .span) (c .part .ensures) (b .ensures .1))
 
 returns : tie.Need-returns
 unfolding number
