@@ -231,15 +231,15 @@ place-take (suc k) (suc j) (r ∷ l) a h e = place-take k j l a (omega arith) e
 
 module _ (q : Rating) (l : List Rating) (k : ℕ) {j : ℕ} (u : Unmet q l k j) where
   module _ (h : j < k) (a : Rating) (here : drop j l ≡ a ∷ drop (j + 1) l) where
-    at-place : drop j (take k l) ≡ a ∷ drop (j + 1) (take k l)
-    at-place = place-take k j l a h (here ∙ ap (λ (n : ℕ). a ∷ drop n l) (add-one j)) ∙ ap (λ (n : ℕ). a ∷ drop n (take k l)) (sym (add-one j))
+    in-front : drop j (take k l) ≡ a ∷ drop (j + 1) (take k l)
+    in-front = place-take k j l a h (here ∙ ap (λ (n : ℕ). a ∷ drop n l) (add-one j)) ∙ ap (λ (n : ℕ). a ∷ drop n (take k l)) (sym (add-one j))
 
     pub unmet-next : sameRating q a ≡ false → Unmet q l k (j + 1)
-    unmet-next e = counted-next u at-place (sym e) refl
+    unmet-next e = counted-next u in-front (sym e) refl
 
     more : sameRating q a ≡ true → length (those (sameRating q) (drop j (take k l))) ≡ suc (length (those (sameRating q) (drop (j + 1) (take k l))))
     unfolding those
-    more e = rw (at-place, e)
+    more e = rw (in-front, e)
 
     pub met : sameRating q a ≡ true → isNew q (take k l) ≡ false
     met e = ne-eqb (length (those (sameRating q) (take k l))) 0 (λ z. omega (arith, u .is, more e))
