@@ -66,7 +66,7 @@ insert-test f q (x ∷ a) s = go (f x) (insert-test f q a s)
 pub new-among : (p q : Rating) (a s : List Rating) → isNew p (a ++ (q ∷ s)) ≡ cond (sameRating p q) false (isNew p (a ++ s))
 new-among p q a s = insert-test (sameRating p) q a s
 
-pub new-behind : (p q : Rating) (s : List Rating) → isNew p (s ++ (q ∷ [])) ≡ cond (sameRating p q) false (isNew p s)
+new-behind : (p q : Rating) (s : List Rating) → isNew p (s ++ (q ∷ [])) ≡ cond (sameRating p q) false (isNew p s)
 new-behind p q s = new-among p q s [] ∙ ap (λ (x : List Rating). cond (sameRating p q) false (isNew p x)) (append-nil s)
 
 pub new-first : (q : Rating) → isNew q [] ≡ true
@@ -105,7 +105,7 @@ firsts-alike (q ∷ l) s s′ h = rw (h q) (go (isNew q s′) (firsts-alike l (q
     go true new old = ap (_∷_ q) new
     go false new old = old
 
-firsts-append : (s a c : List Rating) → firstsFrom s (a ++ c) ≡ firstsFrom s a ++ firstsFrom (a ++ s) c
+pub firsts-append : (s a c : List Rating) → firstsFrom s (a ++ c) ≡ firstsFrom s a ++ firstsFrom (a ++ s) c
 unfolding firstsFrom
 firsts-append s [] c = refl
 firsts-append s (q ∷ a) c = go (isNew q s) refl (firsts-append (q ∷ s) a c) (firsts-append s a c)
@@ -141,6 +141,18 @@ firsts-new q s (x ∷ l) h = go (isNew x s) refl (sameRating q x) refl (λ g. fi
     go false e true d new old = absurd (true-holds false (apart e d))
     go false e false d new old = rw e (old ∙ sym (new-among q x [] l ∙ rw d))
 
+-- one that is seen is not among them
+pub seen-none : (q : Rating) (s l : List Rating) → isNew q s ≡ false → isNew q (firstsFrom s l) ≡ true
+unfolding firstsFrom
+seen-none q s [] h = new-first q
+seen-none q s (x ∷ l) h = go (isNew x s) refl (sameRating q x) refl (seen-none q (x ∷ s) l) (seen-none q s l h)
+  where
+    go : (t : Bool) → isNew x s ≡ t → (u : Bool) → sameRating q x ≡ u → (isNew q (x ∷ s) ≡ false → isNew q (firstsFrom (x ∷ s) l) ≡ true) →
+        isNew q (firstsFrom s l) ≡ true → isNew q (cond (isNew x s) (x ∷ firstsFrom (x ∷ s) l) (firstsFrom s l)) ≡ true
+    go true e true d new old = absurd (true-holds false (sym h ∙ ap (λ (y : Rating). isNew y s) (same-is q x d) ∙ e))
+    go true e false d new old = rw e (new-among q x [] (firstsFrom (x ∷ s) l) ∙ rw d (new (new-among q x [] s ∙ rw d h)))
+    go false e u d new old = rw e old
+
 pub among-firsts : (q : Rating) (l : List Rating) → isNew q (firstsFrom [] l) ≡ isNew q l
 among-firsts q l = firsts-new q [] l (new-first q)
 
@@ -175,7 +187,7 @@ firsts-next k l q here = ap (firstsFrom (take k l)) here ∙ go (isNew q (take k
 
 -- ---- how often a rating stands at the first k places, and behind
 
-those-both : (f : Rating → Bool) (a c : List Rating) → length (those f (a ++ c)) ≡ length (those f a) + length (those f c)
+pub those-both : (f : Rating → Bool) (a c : List Rating) → length (those f (a ++ c)) ≡ length (those f a) + length (those f c)
 unfolding those
 those-both f [] c = omega arith
 those-both f (x ∷ a) c = go (f x) (those-both f a c)
@@ -219,15 +231,15 @@ place-take (suc k) (suc j) (r ∷ l) a h e = place-take k j l a (omega arith) e
 
 module _ (q : Rating) (l : List Rating) (k : ℕ) {j : ℕ} (u : Unmet q l k j) where
   module _ (h : j < k) (a : Rating) (here : drop j l ≡ a ∷ drop (j + 1) l) where
-    at-place : drop j (take k l) ≡ a ∷ drop (j + 1) (take k l)
-    at-place = place-take k j l a h (here ∙ ap (λ (n : ℕ). a ∷ drop n l) (add-one j)) ∙ ap (λ (n : ℕ). a ∷ drop n (take k l)) (sym (add-one j))
+    in-front : drop j (take k l) ≡ a ∷ drop (j + 1) (take k l)
+    in-front = place-take k j l a h (here ∙ ap (λ (n : ℕ). a ∷ drop n l) (add-one j)) ∙ ap (λ (n : ℕ). a ∷ drop n (take k l)) (sym (add-one j))
 
     pub unmet-next : sameRating q a ≡ false → Unmet q l k (j + 1)
-    unmet-next e = counted-next u at-place (sym e) refl
+    unmet-next e = counted-next u in-front (sym e) refl
 
     more : sameRating q a ≡ true → length (those (sameRating q) (drop j (take k l))) ≡ suc (length (those (sameRating q) (drop (j + 1) (take k l))))
     unfolding those
-    more e = rw (at-place, e)
+    more e = rw (in-front, e)
 
     pub met : sameRating q a ≡ true → isNew q (take k l) ≡ false
     met e = ne-eqb (length (those (sameRating q) (take k l))) 0 (λ z. omega (arith, u .is, more e))

@@ -83,12 +83,12 @@ pub record Row (b : Bytes) (is : List ℕ) (m : ℕ) (q : Rating) (r : ℕ) : Ty
   pub before : (j : ℕ) → j < r → sameRating (ratingAt b (getD is j 0)) q ≡ false
   pub here : r < m → sameRating (ratingAt b (getD is r 0)) q ≡ true
 
--- row j's amount is one more, where j is a row
-pub record Increased (ns : List ℕ) (m j : ℕ) (ns′ : List ℕ) : Type 0 where
+-- row j's amount is one more, where j is one of the rows
+pub record CountedIn (ns : List ℕ) (m j : ℕ) (ns′ : List ℕ) : Type 0 where
   pub row : j < m → ns′ ≡ set ns j (getD ns j 0 + 1)
   pub none : m ≤ j → ns′ ≡ ns
 
--- or record i becomes row m; then there are r rows
+-- row j's amount is one more, or record i becomes row m; then there are r rows
 pub record Noted (is ns : List ℕ) (m j i r : ℕ) (is′ ns′ : List ℕ) : Type 0 where
   pub row : j < m → (r ≡ m) × (is′ ≡ is) × (ns′ ≡ set ns j (getD ns j 0 + 1))
   pub new : m ≤ j → (r ≡ m + 1) × (is′ ≡ set is m i) × (ns′ ≡ set ns m 1)

@@ -9,7 +9,7 @@ ghost use lib.ListN.{length, getD};
 ghost use Rattle.octets.specs.Bytes.{at32};
 ghost use Rattle.octets.specs.Put.{Put};
 ghost use Rattle.definition.specs.Sound.{sound};
-ghost use Rattle.metrics.specs.Meaning.{Fits, ratingAt, mostRows, AllFit, Row, Increased, Noted, Collected, Tallied, rowRatings, rowEntries, sizes};
+ghost use Rattle.metrics.specs.Meaning.{Fits, ratingAt, mostRows, AllFit, Row, CountedIn, Noted, Collected, Tallied, rowRatings, rowEntries, sizes};
 use super::rating;
 use model::Answer;
 use register::ACTIVE;
@@ -43,7 +43,7 @@ pub(crate) fn row_of(register: &[u8], records: &[u32; ROOM], m: usize, i: u32) -
 // Adds one to the amount of row j, where that is one of the first m.
 fn count_in(amounts: &mut [u32; ROOM], m: usize, j: usize)
     requires { ⌜ (m ≤ mostRows) × (j < m → getD (now amounts) j 0 < 4294967295) ⌝ }
-    ensures { λ _. ⌜ Increased (now (amounts .entry)) m j (now (amounts .exit)) ⌝ }
+    ensures { λ _. ⌜ CountedIn (now (amounts .entry)) m j (now (amounts .exit)) ⌝ }
 {
     if j < m {
         let n = amounts[j];
