@@ -144,6 +144,11 @@ DAMAGES = {
         ("a path to nothing", "README.md", r"\Z", "See docs/NOWHERE.md.\n"),
         ("a law that is nowhere", ARCHITECTURE, r"\Z", "See `Laws/Text/Nowhere.antt`.\n"),
     ],
+    (pages, "each enum has its meaning"): [
+        ("an enum left out", CLAIMS, r"^\| `Soundness` .*\n", ""),
+        ("an enum that is not there", CLAIMS, r"^\| `Reply` ", "| `Reply`, `Response` "),
+        ("a definition that is not there", CLAIMS, r"`causeValue`: ", "`causeWorth`: "),
+    ],
     (pages, "TRUST lists the definition, with its lines"): [
         ("a definition that has grown", LIMITS, r"\Z", "-- more\n"),
         ("a file left out", TRUST, r"^\| `Mask.antt` .*\n", ""),

@@ -92,6 +92,26 @@ def claims(root):
             yield f"{where}: {name} is not in docs/CLAIMS.md"
 
 
+def enums(root):
+    """docs/CLAIMS.md's section on enums has each enum of the code, and what its table names is in the file or the crate of the row."""
+    _, _, rest = (root / "docs/CLAIMS.md").read_text(encoding="utf-8").partition("\n## Answers that are enums\n")
+    section = rest.partition("\n## ")[0]
+    sources = dict(texts(root, "crates/*/src/**/*.rt"))
+    for path, source in sources.items():
+        for name in re.findall(r"^(?:pub(?:\(crate\))? )?enum (\w+)", source, re.M):
+            if f"`{name}`" not in section:
+                yield f"{path}: enum {name} is not in docs/CLAIMS.md"
+    for name, crate, says, file in re.findall(r"^\| (`.+?) \| `(\w+)` \| (.+) \| `(\S+)` \|$", section, re.M):
+        code_of = "\n".join(source for path, source in sources.items() if path.startswith(f"crates/{crate}/"))
+        specs = (root / file).read_text(encoding="utf-8")
+        for word in re.findall(r"`(\w+)`", name):
+            if not re.search(rf"\benum {word}\b", code_of):
+                yield f"docs/CLAIMS.md: {crate} has no enum {word}"
+        for word in re.findall(r"`(\w+)`", says):
+            if not re.search(rf"^\s*(?:\w+ )*{word}(?: :| \()", specs, re.M) and not re.search(rf"\bfn {word}\(", code_of):
+                yield f"docs/CLAIMS.md: {word} is not in {file}"
+
+
 def page(root):
     """docs/WRONG.md is what tests/wrong_page.py writes."""
     if (root / wrong_page.PAGE).read_text(encoding="utf-8") != wrong_page.page(root):
@@ -185,6 +205,7 @@ CHECKS = {
     "ARCHITECTURE lists the crates by level": architecture,
     "ARCHITECTURE follows a raise": raised,
     "claims are there, one for each public function": claims,
+    "each enum has its meaning": enums,
     "the page of wrong answers is theirs": page,
     "sentences have their definitions": sentences,
     "paths in documents are there": paths,
