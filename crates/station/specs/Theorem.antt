@@ -1,6 +1,8 @@
--- Demand 3, on what the entry points promise; and that a sound register stays sound.
-use Prim.Native.Nat.{ℕ}
+-- Demand 3, on what the entry points promise; that a sound register stays sound; and M-107: no call on one gives 32.
+use Prim.Native.Nat.{ℕ, _≤_}
+use mathlib.Core.Path.{_≡_}
 use mathlib.Core.Bool.{Bool}
+use native.Mathlib.Omega.{arith}
 use lib.Dec.{T}
 use Rattle.octets.specs.Bytes.{Bytes, Octets}
 use Rattle.octets.specs.BoolLaws.{holds}
@@ -32,3 +34,16 @@ unfolding stepOf
 stays-sound b call n o h =
     rw (holds (sound b) h)
     (reply-sound b _ (perform (parseCall call) n (station b)) h (perform-legal (parseCall call) n (station b) (call-legal call o) (sound-holds b h .legal)))
+
+-- ---- M-107: "Show that no call on any sound register gives 32"
+
+reply-number : (b : Bytes) (kind : Bool) (x : Outcome Answer) → Answered kind (station b) x → replyOf b x .number ≤ 31
+reply-number b kind (done a s) l = omega arith
+reply-number b kind (stopped k) l = l
+
+pub never-32 : (b call : Bytes) (n : ℕ) → Octets call → T (sound b) → stepOf b call n .number ≡ 32 → ⊥
+unfolding stepOf
+never-32 b call n o h =
+    let x = perform (parseCall call) n (station b) in
+    let few = reply-number b _ x (perform-legal (parseCall call) n (station b) (call-legal call o) (sound-holds b h .legal)) in
+    rw (holds (sound b) h) (λ e. omega (arith, few, e))
