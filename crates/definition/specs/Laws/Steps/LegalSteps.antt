@@ -1,4 +1,5 @@
--- What goes into history keeps a station legal, and the active chain as it was. For the sweep of `expiry`, which retires alarms.
+-- What goes into history keeps a station legal, and the active chain as it was; and wherever a step takes a record, one is free. For the sweep
+-- of `expiry`, which retires alarms, and for M-107.
 use Prim.Native.Nat.{ℕ, _≤_, _<_}
 use mathlib.Core.Path.{_≡_, refl, _∙_}
 use mathlib.Core.Bool.{Bool, true, false, cond}
@@ -8,11 +9,11 @@ use lib.ListN.{length}
 use borrow.Author.Tests.{leb-true, leb-false}
 use Rattle.definition.specs.Chain.{Entry, newest, without, times}
 use Rattle.definition.specs.Alarm.{Alarm, sameIdentity}
-use Rattle.definition.specs.Station.{Station, Outcome, Step, _>>=_, give, freeOldestHistory}
+use Rattle.definition.specs.Station.{Station, Outcome, done, Step, _>>=_, give, activeFull, auditFull, freeOldestHistory}
 use Rattle.definition.specs.Steps.{makeRoom, extendHistory, historyAfter, intoHistory, retire}
 use Rattle.definition.specs.Contracts.LegalFields.{LegalAlarm}
 use Rattle.definition.specs.Contracts.LegalStation.{LegalStation}
-use Rattle.definition.specs.Laws.Steps.LegalMoves.{Ends, ok, ends-after, ends-weaken, Aside, addHistory-legal, freeActive-legal, freeOldestHistory-legal, changeHistory-legal}
+use Rattle.definition.specs.Laws.Steps.LegalMoves.{Ends, ok, ends-after, ends-weaken, Aside, Free, active-free, history-free, audit-free, addHistory-legal, freeActive-legal, freeOldestHistory-legal, changeHistory-legal}
 
 cond-ends : {A : Type 0} {Q : A → Station → Type 0} {s : Station} (b : Bool) (m n : Step A) → Ends Q (m s) → Ends Q (n s) → Ends Q (cond b m n s)
 cond-ends true m n p q = p
@@ -55,3 +56,18 @@ module _ (s : Station) (l : LegalStation s) where
   retire-legal i a f h =
       ends-after _ (freeActive-legal s l i h) (λ u t p.
       ends-weaken (intoHistory-legal t (p .0) a f) (λ v r q. (q .legal, q .same ∙ p .1, q .limit ∙ p .2)))
+
+-- ---- M-107: wherever a step takes a record, the free chain of a legal station has one
+
+module _ (s : Station) (l : LegalStation s) where
+  -- a raise stores a new alarm where the active chain is not full
+  pub raise-takes : activeFull s ≡ done false s → Free s
+  raise-takes e = active-free s l (leb-false (s .limitA) (length (s .active)) cc)
+
+  -- history is extended behind `makeRoom`
+  pub history-takes : Ends (λ u t. Free t) (makeRoom s)
+  history-takes = ends-weaken (makeRoom-legal s l) (λ u t p. history-free t (p .0 .legal) (p .1))
+
+  -- an event is stored where the audit chain is not full
+  pub audit-takes : auditFull s ≡ done false s → Free s
+  audit-takes e = audit-free s l (leb-false (s .limitE) (length (s .audit)) cc)
