@@ -2,22 +2,22 @@
 -- must meet in its `Lasting`. Each law says besides that both stations stay legal, and that both are refused with the same number, not 32.
 -- For the laws of steps (AlikeSteps) and of twins.
 use Prim.Native.Nat.{ℕ, suc, _+_, _<_}
-use mathlib.Core.Path.{_≡_, refl, sym, ap, _∙_}
-use mathlib.Core.List.{List, [], _∷_, _++_}
+use mathlib.Core.Path.{_≡_, sym, ap, _∙_}
+use mathlib.Core.List.{List, [], _∷_}
 use mathlib.Core.Bool.{Bool}
 use mathlib.Core.Option.{Option, none, some}
 use native.Mathlib.Omega.{arith}
-use lib.ListN.{length}
+use lib.ListN.{length, drop}
 use Rattle.octets.specs.Bytes.{Bytes, same}
 use Rattle.definition.specs.Value.{RaiseValue, Action}
 use Rattle.definition.specs.Chain.{Entry, entry, onContent, times}
 use Rattle.definition.specs.Alarm.{Alarm}
-use Rattle.definition.specs.Station.{Station, Step, _>>=_, onActive, withActive, taking, addActive, freeActive, changeActive}
+use Rattle.definition.specs.Station.{Station, Step, _>>=_, onActive, withActive, nextFree, addActive, freeActive, changeActive}
 use Rattle.definition.specs.Answer.{Answer, Raised, Updated}
 use Rattle.definition.specs.Steps.{intoHistory, updatedBy, newAlarm, clearedBy, actionAnswer, actedOn, expiredBy}
 use Rattle.definition.specs.Contracts.LegalFields.{LegalAlarm}
 use Rattle.definition.specs.Contracts.LegalStation.{LegalStation}
-use Rattle.definition.specs.Laws.Steps.LegalMoves.{Ends, ended, Aside, addActive-legal, freeActive-legal, changeActive-legal}
+use Rattle.definition.specs.Laws.Steps.LegalMoves.{ended, Aside, addActive-legal, freeActive-legal, changeActive-legal}
 use Rattle.definition.specs.Laws.Steps.Answers.{said}
 use Rattle.definition.specs.Laws.Book.Occurrences.{length-without, length-replaced, length-last}
 use Rattle.definition.specs.Twins.{AtEach}
@@ -83,8 +83,8 @@ pub record Lasting (k : Likeness) : Type 0 where
   pub changed : {s t : Station} {c c′ : List (Entry Alarm)} → k .Rest s t → k .Rest (withActive c (s .free) s) (withActive c′ (t .free) t)
   pub freed : {s t : Station} {c c′ : List (Entry Alarm)} {e e′ : Entry Alarm} → k .Pair e e′ → k .Rest s t →
       k .Rest (withActive c (e .index ∷ s .free) s) (withActive c′ (e′ .index ∷ t .free) t)
-  pub taken : {s t : Station} {c c′ : List (Entry Alarm)} {i i′ : ℕ} {f f′ : List ℕ} {a a′ : Alarm} → k .New a a′ → k .Rest s t → s .free ≡ i ∷ f → t .free ≡ i′ ∷ f′ →
-      k .Pair (entry i a) (entry i′ a′) × k .Rest (withActive c f s) (withActive c′ f′ t)
+  pub stored : {s t : Station} {a a′ : Alarm} → k .New a a′ → k .Rest s t → k .Pair (entry (nextFree s) a) (entry (nextFree t) a′)
+  pub taken : {s t : Station} {c c′ : List (Entry Alarm)} → k .Rest s t → k .Rest (withActive c (drop 1 (s .free)) s) (withActive c′ (drop 1 (t .free)) t)
   pub files : {a a′ : Alarm} {n : ℕ} {d d′ : List (Entry Alarm)} → k .Past a a′ → BothLegal 5 a a′ → Related (On k n d d′) (Only (On k n d d′)) (intoHistory a) (intoHistory a′)
   -- answers
   pub saysSame : (x : Answer) → k .Says x x
@@ -107,17 +107,6 @@ go-on p q r h = record {
 -- what was found is legal
 pub found-legal : {k : Likeness} {n : ℕ} {e e′ : Entry Alarm} {d d′ : List (Entry Alarm)} {s t : Station} → On k n (e ∷ d) (e′ ∷ d′) s t → BothLegal 3 (e .content) (e′ .content)
 found-legal p = picked-holds (LegalAlarm 3) (p .picked) (p .legal .fields .active) (p .legal′ .fields .active)
-
--- a take on both that ends legally
-takes-both : {Q : Unit {0} → Unit {0} → Station → Station → Type 0} (put put′ : ℕ → List ℕ → Station → Station) (s t : Station) →
-    Ends (λ u. LegalStation) (taking put (s .free) s) → Ends (λ u. LegalStation) (taking put′ (t .free) t) →
-    ((i i′ : ℕ) (f f′ : List ℕ) → s .free ≡ i ∷ f → t .free ≡ i′ ∷ f′ → LegalStation (put i f s) → LegalStation (put′ i′ f′ t) → Q tt tt (put i f s) (put′ i′ f′ t)) →
-    Both Q (taking put (s .free) s) (taking put′ (t .free) t)
-unfolding taking
-takes-both {Q} put put′ s t x y h = go (s .free) (t .free) refl refl x y
-  where
-    go : (f f′ : List ℕ) → s .free ≡ f → t .free ≡ f′ → Ends (λ u. LegalStation) (taking put f s) → Ends (λ u. LegalStation) (taking put′ f′ t) → Both Q (taking put f s) (taking put′ f′ t)
-    go (i ∷ f) (i′ ∷ f′) p q x y = both (h i i′ f f′ p q (ended x) (ended y))
 
 module _ {k : Likeness} (l : Lasting k) where
   -- ---- the moves
@@ -161,26 +150,21 @@ module _ {k : Likeness} (l : Lasting k) where
   abbrev pub BelowLimit : ℕ → Station → Station → Type 0
   BelowLimit n s t = On k n [] [] s t × (n < s .limitA)
 
-  -- from two stations whose next free records may hold the two alarms
-  pub add-active-at : {n : ℕ} {a a′ : Alarm} (s t : Station) → BelowLimit n s t → BothLegal 3 a a′ →
-      ((i i′ : ℕ) (f f′ : List ℕ) → s .free ≡ i ∷ f → t .free ≡ i′ ∷ f′ →
-      k .Pair (entry i a) (entry i′ a′) × k .Rest (withActive (s .active ++ (entry i a ∷ [])) f s) (withActive (t .active ++ (entry i′ a′ ∷ [])) f′ t)) →
-      Both (Only (On k (suc n) [] [])) (addActive a s) (addActive a′ t)
-  unfolding addActive
-  add-active-at {a = a} {a′} s t (p, room) (g, g′) h =
-      let fits : length (t .active) < t .limitA = omega (arith, room, p .size, p .limit, length-each (k .Pair) (s .active) (t .active) (p .pairs)) in
-      takes-both _ _ s t (addActive-legal s (p .legal) a g (omega (arith, room, p .size))) (addActive-legal t (p .legal′) a′ g′ fits) (λ i i′ f f′ u v x y. record {
-        legal = x;
-        legal′ = y;
-        size = length-last (s .active) (entry i a) ∙ ap suc (p .size);
-        limit = p .limit;
-        pairs = last-each (k .Pair) (s .active) (t .active) (p .pairs) (h i i′ f f′ u v .0);
-        picked = nothing;
-        rest = h i i′ f f′ u v .1;
-      })
-
   pub add-active : {n : ℕ} {a a′ : Alarm} → k .New a a′ → BothLegal 3 a a′ → Related (BelowLimit n) (Only (On k (suc n) [] [])) (addActive a) (addActive a′)
-  add-active h g = record { from = λ s t p. add-active-at s t p g (λ i i′ f f′ u v. l .taken h (p .0 .rest) u v) }
+  unfolding addActive
+  add-active {a = a} {a′} h (g, g′) = record {
+    from = λ s t (p, room).
+        let fits : length (t .active) < t .limitA = omega (arith, room, p .size, p .limit, length-each (k .Pair) (s .active) (t .active) (p .pairs)) in
+        both (record {
+          legal = ended (addActive-legal s (p .legal) a g (omega (arith, room, p .size)));
+          legal′ = ended (addActive-legal t (p .legal′) a′ g′ fits);
+          size = length-last (s .active) (entry (nextFree s) a) ∙ ap suc (p .size);
+          limit = p .limit;
+          pairs = last-each (k .Pair) (s .active) (t .active) (p .pairs) (l .stored h (p .rest));
+          picked = nothing;
+          rest = l .taken (p .rest);
+        });
+  }
 
   -- ---- what steps look at
 

@@ -1,17 +1,17 @@
 -- Twins, an instance of what is alike: two stations that differ in texts and details only. They last, whatever move is made on both. For
 -- the laws of calls (TwinSteps).
 use Prim.Native.Nat.{ℕ, _≤_, _<_}
-use mathlib.Core.Path.{_≡_, refl, sym, ap, ap₂, _∙_, subst}
+use mathlib.Core.Path.{_≡_, refl, ap, ap₂, subst}
 use mathlib.Core.List.{List, [], _∷_}
 use mathlib.Core.Bool.{Bool, true, false, cond}
 use mathlib.Core.Option.{Option, none, some}
 use native.Mathlib.Omega.{arith}
 use lib.Dec.{leb, eqb}
-use lib.ListN.{length}
+use lib.ListN.{length, getD, drop}
 use borrow.Author.Tests.{leb-true, leb-false}
 use Rattle.definition.specs.Chain.{Entry, entry, newest, replaced}
 use Rattle.definition.specs.Alarm.{Alarm, sameIdentity}
-use Rattle.definition.specs.Station.{Station, taking, addHistory, oldestHistoryOf, freeOldestHistory, changeHistory}
+use Rattle.definition.specs.Station.{Station, addHistory, oldestHistoryOf, freeOldestHistory, changeHistory}
 use Rattle.definition.specs.Answer.{Raised, Updated, Acknowledged, Suppressed}
 use Rattle.definition.specs.Value.{Action, acknowledging, suppressing}
 use Rattle.definition.specs.Steps.{makeRoom, extendHistory, historyAfter, intoHistory, updatedBy, newAlarm, clearedBy, actionAnswer, actedOn, expiredBy}
@@ -55,16 +55,6 @@ twin =
 
 -- ---- history
 
--- a take of the same record
-pub match-taking : (R : Station → Station → Type 0) (put put′ : ℕ → List ℕ → Station → Station) (s t : Station) → s .free ≡ t .free →
-    ((i : ℕ) (f : List ℕ) → s .free ≡ i ∷ f → R (put i f s) (put′ i f t)) → Match R (taking put (s .free) s) (taking put′ (t .free) t)
-unfolding taking
-match-taking R put put′ s t e h = subst (λ (f : List ℕ). Match R (taking put (s .free) s) (taking put′ f t)) e (go (s .free) refl)
-  where
-    go : (f : List ℕ) → s .free ≡ f → Match R (taking put f s) (taking put′ f t)
-    go [] p = tt
-    go (i ∷ f) p = h i f p
-
 replaced-twin : (i : ℕ) (a a′ : Alarm) → TwinAlarms a a′ → (c c′ : List (Entry Alarm)) → AtEach TwinAt c c′ → AtEach TwinAt (replaced i a c) (replaced i a′ c′)
 unfolding replaced
 replaced-twin i a a′ h [] [] p = tt
@@ -95,9 +85,14 @@ module _ (n : ℕ) (d d′ : List (Entry Alarm)) where
   add-history {a} {a′} h (g, g′) = record {
     from = λ s t (p, room).
         let r = p .rest in
-        meet (addHistory-legal s (p .legal) a g room) (addHistory-legal t (p .legal′) a′ g′ (omega (arith, room, same-length s t p, r .limits .0)))
-        (match-taking TwinRest _ _ s t (r .free) (λ i f u.
-        record { limits = r .limits; history = last-each TwinAt (s .history) (t .history) (r .history) (refl, h); audit = r .audit; free = refl; counters = r .counters })) (λ s′ t′ x y z. go-on p x y z);
+        meet {R = TwinRest} (addHistory-legal s (p .legal) a g room) (addHistory-legal t (p .legal′) a′ g′ (omega (arith, room, same-length s t p, r .limits .0)))
+        (record {
+          limits = r .limits;
+          history = last-each TwinAt (s .history) (t .history) (r .history) (ap (λ f. getD f 0 0) (r .free), h);
+          audit = r .audit;
+          free = ap (drop 1) (r .free);
+          counters = r .counters;
+        }) (λ s′ t′ x y z. go-on p x y z);
   }
 
   change-history : (i : ℕ) {a a′ : Alarm} → TwinAlarms a a′ → BothLegal 5 a a′ → Related Here (Only Here) (changeHistory i a) (changeHistory i a′)
@@ -188,7 +183,8 @@ twin-lasts = record {
   newPast = λ h. h;
   changed = λ p. p;
   freed = λ h p. record { limits = p .limits; history = p .history; audit = p .audit; free = ap₂ _∷_ (h .0) (p .free); counters = p .counters };
-  taken = λ {i = i} {i′} {f} {f′} h p u v. let e : _≡_ {A = List ℕ} (i ∷ f) (i′ ∷ f′) = sym u ∙ p .free ∙ v in ((cc, h), record { limits = p .limits; history = p .history; audit = p .audit; free = cc; counters = p .counters });
+  stored = λ h p. (ap (λ f. getD f 0 0) (p .free), h);
+  taken = λ p. record { limits = p .limits; history = p .history; audit = p .audit; free = ap (drop 1) (p .free); counters = p .counters };
   files = λ {n = n} {d} {d′} h g. into-history n d d′ h g;
   saysSame = λ x. refl;
   saysRaised = λ h. ap Raised h;

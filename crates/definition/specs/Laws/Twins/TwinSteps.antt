@@ -6,7 +6,7 @@ use mathlib.Core.Bool.{Bool, false}
 use mathlib.Core.Option.{Option, some}
 use native.Mathlib.Omega.{arith}
 use lib.Dec.{leb, eqb, ltb}
-use lib.ListN.{length, take}
+use lib.ListN.{length, take, drop, getD}
 use borrow.Author.Tests.{leb-false}
 use Rattle.octets.specs.Bytes.{Bytes, same}
 use Rattle.definition.specs.Value.{RaiseValue, PolicyValue, CallValue, opOf, Action, acknowledging, suppressing}
@@ -28,7 +28,7 @@ use Rattle.definition.specs.Laws.Steps.PairedChains.{length-each}
 use Rattle.definition.specs.Laws.Steps.SideBySide.{Match, meet, Related, Only, give-related, look-related, refuse-related, cond-related, cond-both, pre-related, known-related, bind-related, then-related, test-related}
 use Rattle.definition.specs.Laws.Steps.Alike.{BothLegal, On, Told, worded, go-on, search-like}
 use Rattle.definition.specs.Laws.Steps.AlikeSteps.{told, quiet, act-like, raise-like, clear-like, plain-like, expire-like, inRecord-like}
-use Rattle.definition.specs.Laws.Twins.TwinStations.{TwinAt, TwinRest, twin, match-taking, twin-lasts}
+use Rattle.definition.specs.Laws.Twins.TwinStations.{TwinAt, TwinRest, twin, twin-lasts}
 
 -- ---- audit
 
@@ -42,9 +42,14 @@ module _ (n : ℕ) (d d′ : List (Entry Alarm)) where
     from = λ s t (p, q).
         let r = p .rest in
         let room = leb-false (s .limitE) (length (s .audit)) q in
-        meet (addAudit-legal s (p .legal) v h room) (addAudit-legal t (p .legal′) v h (omega (arith, room, r .limits .1, ap length (r .audit))))
-        (match-taking TwinRest _ _ s t (r .free) (λ i f u.
-        record { limits = r .limits; history = r .history; audit = ap (λ (c : List (Entry Event)). c ++ (entry i v ∷ [])) (r .audit); free = refl; counters = r .counters })) (λ s′ t′ x y z. go-on p x y z);
+        meet {R = TwinRest} (addAudit-legal s (p .legal) v h room) (addAudit-legal t (p .legal′) v h (omega (arith, room, r .limits .1, ap length (r .audit))))
+        (record {
+          limits = r .limits;
+          history = r .history;
+          audit = ap₂ (λ c f. c ++ (entry (getD f 0 0) v ∷ [])) (r .audit) (r .free);
+          free = ap (drop 1) (r .free);
+          counters = r .counters;
+        }) (λ s′ t′ x y z. go-on p x y z);
   }
 
   count-success : Related Here (Only Here) countSuccess countSuccess
