@@ -28,6 +28,7 @@ pub mod Reports
 pub mod Perform
 -- "Lists"
 pub mod Lists
+pub mod Numbers
 pub mod Twins
 pub mod Mask
 pub mod Claim

@@ -1,20 +1,25 @@
--- Demand 3, on what the entry points promise; that a sound register stays sound; and M-107: no call on one gives 32.
-use Prim.Native.Nat.{ℕ, _≤_}
-use mathlib.Core.Path.{_≡_}
-use mathlib.Core.Bool.{Bool}
-use native.Mathlib.Omega.{arith}
-use lib.Dec.{T}
+-- Demand 3, on what the entry points promise; that a sound register stays sound; which numbers they return; and that no call comes to the end
+-- of the free chain.
+use Prim.Native.Nat.{ℕ}
+use mathlib.Core.Path.{_≡_, refl}
+use mathlib.Core.List.{_∷_}
+use mathlib.Core.Bool.{Bool, true, false, cond, _||_}
+use lib.Dec.{T, eqb}
 use Rattle.octets.specs.Bytes.{Bytes, Octets}
-use Rattle.octets.specs.BoolLaws.{holds}
+use Rattle.octets.specs.BoolLaws.{holds, true-holds}
 use Rattle.definition.specs.Parse.{parseCall}
-use Rattle.definition.specs.Station.{Outcome, done, stopped}
+use Rattle.definition.specs.Station.{Station, Outcome, done, stopped}
 use Rattle.definition.specs.Answer.{Answer}
 use Rattle.definition.specs.Perform.{perform}
+use Rattle.definition.specs.Laws.Steps.Answers.{listing}
+use Rattle.definition.specs.Laws.Steps.Spare.{spare, spared, NoStray, Leaves, legal-strays, spare-left}
 use Rattle.definition.specs.Laws.Twins.KeptLegal.{Answered, perform-legal}
 use Rattle.definition.specs.Laws.Text.ParsedLegal.{call-legal}
 use Rattle.definition.specs.Sound.{station, sound}
 use Rattle.definition.specs.Laws.Steps.SoundStation.{sound-holds, legal-sound}
+use Rattle.definition.specs.Opening.{opened, openOf}
 use Rattle.definition.specs.Lists.{replyOf, stepOf}
+use Rattle.definition.specs.Numbers.{openingRefusals, stepRefusals, among, Among, Numbers}
 use Rattle.definition.specs.Claim.{Claim}
 use Rattle.definition.specs.Laws.Twins.ClaimHolds.{claim}
 
@@ -22,6 +27,10 @@ use Rattle.definition.specs.Laws.Twins.ClaimHolds.{claim}
 -- `OpenReturns` and `StepReturns`: these are the contracts of `alarm_open` and `alarm_step`, and proofs/Promises.antt says so of the code
 pub whole-lists : Claim
 whole-lists = claim
+
+-- a call on a sound register leaves a legal station, or is refused with a number of the table
+called : (b call : Bytes) (n : ℕ) → Octets call → T (sound b) → Answered (listing (parseCall call)) (station b) (perform (parseCall call) n (station b))
+called b call n o h = perform-legal (parseCall call) n (station b) (call-legal call o) (sound-holds b h .legal)
 
 -- ---- a sound register stays sound under every call
 
@@ -33,17 +42,41 @@ pub stays-sound : (b call : Bytes) (n : ℕ) → Octets call → T (sound b) →
 unfolding stepOf
 stays-sound b call n o h =
     rw (holds (sound b) h)
-    (reply-sound b _ (perform (parseCall call) n (station b)) h (perform-legal (parseCall call) n (station b) (call-legal call o) (sound-holds b h .legal)))
+    (reply-sound b _ (perform (parseCall call) n (station b)) h (called b call n o h))
 
--- ---- M-107: "Show that no call on any sound register gives 32"
+-- ---- what the entry points return is 0 or a number of the table
 
-reply-number : (b : Bytes) (kind : Bool) (x : Outcome Answer) → Answered kind (station b) x → replyOf b x .number ≤ 31
-reply-number b kind (done a s) l = omega arith
-reply-number b kind (stopped k) l = l
+open-listed : (x y : Bool) (b c : Bytes) → Among (cond x (cond y (opened 0 b) (opened 21 c)) (opened 20 c) .number) (0 ∷ openingRefusals)
+open-listed true true b c = tt
+open-listed true false b c = tt
+open-listed false y b c = tt
 
-pub never-32 : (b call : Bytes) (n : ℕ) → Octets call → T (sound b) → stepOf b call n .number ≡ 32 → ⊥
+or-right : (x y : Bool) → T y → T (x || y)
+or-right true y h = tt
+or-right false y h = h
+
+reply-listed : (b : Bytes) (kind : Bool) (x : Outcome Answer) → Answered kind (station b) x → Among (replyOf b x .number) (0 ∷ stepRefusals)
+reply-listed b kind (done a s) l = tt
+reply-listed b kind (stopped k) l = or-right (eqb k 0) (among k stepRefusals) l
+
+step-listed : (b call : Bytes) (n : ℕ) → Octets call → Among (stepOf b call n .number) (0 ∷ stepRefusals)
 unfolding stepOf
-never-32 b call n o h =
-    let x = perform (parseCall call) n (station b) in
-    let few = reply-number b _ x (perform-legal (parseCall call) n (station b) (call-legal call o) (sound-holds b h .legal)) in
-    rw (holds (sound b) h) (λ e. omega (arith, few, e))
+step-listed b call n o = go (sound b) refl
+  where
+    go : (x : Bool) → sound b ≡ x → Among (stepOf b call n .number) (0 ∷ stepRefusals)
+    go true e = rw e (reply-listed b _ (perform (parseCall call) n (station b)) (called b call n o (true-holds (sound b) e)))
+    go false e = rw e tt
+
+pub numbers : Numbers
+unfolding openOf
+numbers = record { opening = λ a h e slice. open-listed _ _ _ slice; step = step-listed }
+
+-- ---- M-107: no call on a sound register comes to the end of the free chain: with record z more behind it, a call does the same, and leaves z there
+
+leaves-none : (kind : Bool) (s : Station) (x : Outcome Answer) → Answered kind s x → Leaves NoStray x
+leaves-none kind s (done a t) l = legal-strays t (l .0 .chains)
+leaves-none kind s (stopped k) l = tt
+
+pub spare-stays : (b call : Bytes) (n z : ℕ) → Octets call → T (sound b) →
+    perform (parseCall call) n (spare z (station b)) ≡ spared z (perform (parseCall call) n (station b))
+spare-stays b call n z o h = spare-left z (parseCall call) n (station b) (leaves-none _ (station b) _ (called b call n o h))

@@ -1,5 +1,5 @@
 -- Steps on two stations that are alike: one law for each step. Each says that both stations stay legal and alike, that a call is refused on
--- both with the same number, not 32, and that the active length moves by what is answered. For the laws of calls on twins (TwinSteps).
+-- both with the same number of the table, and that the active length moves by what is answered. For the laws of calls on twins (TwinSteps).
 use Prim.Native.Nat.{ℕ, zero, suc, _+_}
 use mathlib.Core.Path.{_≡_, refl, ap, ap₂, _∙_, subst}
 use mathlib.Core.List.{List, [], _∷_}
@@ -65,7 +65,7 @@ module _ {k : Likeness} (l : Lasting k) where
   module _ {c : RaiseValue} {w : Bytes} {d : Option Bytes} (r : k .Raise c (worded w d c)) (f : LegalRaise c) (f′ : LegalRaise (worded w d c)) where
     storeNew-like : {n : ℕ} (i : Bytes) → length i ≡ 16 → Related (BelowLimit l n) (Told k 0 n) (storeNew (newAlarm c i)) (storeNew (newAlarm (worded w d c) i))
     unfolding storeNew newAlarm
-    storeNew-like i h = search-like l _ _ (hasId (c .head .id)) (λ e e′ q. ap (same (c .head .id)) (l .ids q)) (λ s t p. p .0) (store-like (l .news i h r) (new-legal c i f h, new-legal _ i f′ h)) (λ e e′ q g. refuse-related (omega arith))
+    storeNew-like i h = search-like l _ _ (hasId (c .head .id)) (λ e e′ q. ap (same (c .head .id)) (l .ids q)) (λ s t p. p .0) (store-like (l .news i h r) (new-legal c i f h, new-legal _ i f′ h)) (λ e e′ q g. refuse-related tt)
 
     raiseNew-like : {n : ℕ} (i : Bytes) → length i ≡ 16 → Related (On k n [] []) (Told k 0 n) (raiseAt c i none) (raiseAt (worded w d c) i none)
     unfolding raiseAt
@@ -143,4 +143,4 @@ module _ {k : Likeness} (l : Lasting k) where
 
   pub inRecord-like : {P : Station → Station → Type 0} {Q : Answer → Answer → Station → Station → Type 0} (n : ℕ) {m m′ : Step Answer} → Related P Q m m′ → Related P Q (inRecord n m) (inRecord n m′)
   unfolding inRecord
-  inRecord-like n x = cond-related (ltb n 1552) (refuse-related (omega arith)) x
+  inRecord-like n x = cond-related (ltb n 1552) (refuse-related tt) x

@@ -1,4 +1,4 @@
--- What each reader of a call's fields gives is legal, and its refusals are below 30. For whole calls (ParsedLegal).
+-- What each reader of a call's fields gives is legal, and its refusals are numbers of the table. For whole calls (ParsedLegal).
 use Prim.Native.Nat.{ℕ, _^_, _≤_, _<_}
 use mathlib.Core.Path.{_≡_, refl, _∙_}
 use mathlib.Core.List.{[], _∷_}
@@ -18,13 +18,14 @@ use Rattle.definition.specs.Laws.Text.Cause.{cause-stored, cause-length,
 use Rattle.definition.specs.Value.{ObjectValue, PlacesValue, KeyValue, RaiseHeadValue, ScopeValue, ActorValue, RequestValue}
 use Rattle.definition.specs.Reader.{Out, got, bad, Reader, next, _>>=_, give, refuse, into, bytes, number, choice, blob, text, optional, causeIs, causeText}
 use Rattle.definition.specs.Parse.{pair, sessionStore, dataPlaneQueue, objectOf, object, scopeOf, scope, raiseHead, places, key, raiseBody, named, raiseFields, clearFields, plainFields, actor, request, verdict, policyFields, severityOrAll}
+use Rattle.definition.specs.Numbers.{stepRefusals, Among}
 use Rattle.definition.specs.Contracts.LegalFields.{Time, Maybe, BlobOf, TextOf, CauseOf, ObjectOf, LegalKey, LegalScope, LegalRaise, LegalPolicy}
 
--- ---- a reader that gives a P of bytes, or refuses with a number below 30
+-- ---- a reader that gives a P of bytes, or refuses with a number of the table
 
 pub data Given {A : Type 0} (P : A → Type 0) : Out A → Type 0 where
   gave : {a : A} {u : Bytes} → P a → Octets u → Given P (got a u)
-  refuses : {n : ℕ} → n < 30 → Given P (bad n)
+  refuses : {n : ℕ} → Among n stepRefusals → Given P (bad n)
 
 pub record Reads {A : Type 0} (P : A → Type 0) (r : Reader A) : Type 0 where
   pub reads : (s : Bytes) → Octets s → Given P (r s)
@@ -32,7 +33,7 @@ pub record Reads {A : Type 0} (P : A → Type 0) (r : Reader A) : Type 0 where
 pub give-reads : {A : Type 0} (P : A → Type 0) (a : A) → P a → Reads P (give a)
 give-reads P a p = record { reads = λ s o. gave p o }
 
-pub refuse-reads : {A : Type 0} {P : A → Type 0} (n : ℕ) → n < 30 → Reads P (refuse n)
+pub refuse-reads : {A : Type 0} {P : A → Type 0} (n : ℕ) → Among n stepRefusals → Reads P (refuse n)
 refuse-reads n h = record { reads = λ s o. refuses h }
 
 pub if-reads : {A : Type 0} {P : A → Type 0} (b : Bool) (q r : Reader A) → (b ≡ true → Reads P q) → (b ≡ false → Reads P r) → Reads P (cond b q r)
@@ -63,7 +64,7 @@ bytes-reads n = record { reads = λ s o. go s o (leb n (length s)) refl }
   where
     go : (s : Bytes) → Octets s → (b : Bool) → leb n (length s) ≡ b → Given (Part n) (cond b (got (take n s) (drop n s)) (bad 24))
     go s o true p = gave (length-take n s ∙ omega (arith, leb-true n (length s) p), octets-take n s o) (octets-drop n s o)
-    go s o false p = refuses {n = 24} (omega arith)
+    go s o false p = refuses {n = 24} tt
 
 pub number-reads : (n : ℕ) → Reads (λ v. v < 256 ^ n) (number n)
 unfolding number
@@ -72,11 +73,11 @@ number-reads n = bind-reads _ _ (bytes-reads n) (λ b p. give-reads _ _ (rw (←
 choice-reads : (lo hi : ℕ) → Reads (λ v. v ≤ hi) (choice lo hi)
 unfolding choice
 choice-reads lo hi = bind-reads _ _ (number-reads 1) (λ b p. if-reads (leb lo b && leb b hi) _ _
-    (λ e. give-reads _ b (leb-true b hi (holds _ (both-right (leb lo b) (leb b hi) (true-holds _ e))))) (λ e. refuse-reads 25 (omega arith)))
+    (λ e. give-reads _ b (leb-true b hi (holds _ (both-right (leb lo b) (leb b hi) (true-holds _ e))))) (λ e. refuse-reads 25 tt))
 
 blob-reads : (n : ℕ) → Reads (BlobOf n) (blob n)
 unfolding blob
-blob-reads n = bind-reads _ _ (number-reads 4) (λ k p. if-reads (leb k n) _ _ (λ e. fits k (leb-true k n e)) (λ e. refuse-reads 26 (omega arith)))
+blob-reads n = bind-reads _ _ (number-reads 4) (λ k p. if-reads (leb k n) _ _ (λ e. fits k (leb-true k n e)) (λ e. refuse-reads 26 tt))
   where
     weaker : {k : ℕ} → k ≤ n → {o : Out Bytes} → Given (Part k) o → Given (BlobOf n) o
     weaker h (gave {a} p u) = gave {a = a} (omega (arith, p .0)) u
@@ -87,7 +88,7 @@ blob-reads n = bind-reads _ _ (number-reads 4) (λ k p. if-reads (leb k n) _ _ (
 
 text-reads : (n : ℕ) → Reads (TextOf n) (text n)
 unfolding text
-text-reads n = bind-reads _ _ (blob-reads n) (λ t p. if-reads (utf8 t) _ _ (λ e. give-reads (TextOf n) t (p, e)) (λ e. refuse-reads 27 (omega arith)))
+text-reads n = bind-reads _ _ (blob-reads n) (λ t p. if-reads (utf8 t) _ _ (λ e. give-reads (TextOf n) t (p, e)) (λ e. refuse-reads 27 tt))
 
 optional-reads : {A : Type 0} (P : A → Type 0) (r : Reader A) → Reads P r → Reads (Maybe P) (optional r)
 unfolding optional
@@ -98,7 +99,7 @@ pub option-reads : (n : ℕ) → Reads (Maybe (TextOf n)) (optional (text n))
 option-reads n = optional-reads (TextOf n) (text n) (text-reads n)
 
 causeIs-reads : (t : Bytes) → TextOf causeLimit t → (o : Option Bytes) → causeOf t ≡ o → Reads CauseOf (causeIs o)
-causeIs-reads t h none p = refuse-reads 28 (omega arith)
+causeIs-reads t h none p = refuse-reads 28 tt
 causeIs-reads t h (some c) p =
     give-reads CauseOf c ((omega (arith, h .0, cause-length t c p), cause-utf8 t c p (h .1)), cause-stored t c p)
 
@@ -212,7 +213,7 @@ pub raise-reads : Reads LegalRaise raiseFields
 unfolding raiseFields
 raise-reads =
     bind-reads _ _ head-reads (λ h ph. bind-reads _ _ key-reads (λ k pk. if-reads (named (k .places .region)) _ _
-    (λ e. body-reads h k ph (legal-key k pk e)) (λ e. refuse-reads 29 (omega arith))))
+    (λ e. body-reads h k ph (legal-key k pk e)) (λ e. refuse-reads 29 tt)))
 
 pub clear-reads : Reads (λ c. Time (c .time)) clearFields
 unfolding clearFields
@@ -257,4 +258,4 @@ policy-reads =
 
 pub severity-reads : Reads (λ v. Unit {0}) severityOrAll
 unfolding severityOrAll
-severity-reads = bind-reads _ _ (number-reads 1) (λ b pb. if-reads (leb b 5 || eqb b 255) _ _ (λ e. give-reads _ _ tt) (λ e. refuse-reads 25 (omega arith)))
+severity-reads = bind-reads _ _ (number-reads 1) (λ b pb. if-reads (leb b 5 || eqb b 255) _ _ (λ e. give-reads _ _ tt) (λ e. refuse-reads 25 tt))

@@ -1,10 +1,9 @@
--- What the parser gives of a call's bytes is a call of the operation that the first byte names, with legal fields; or a refusal below 30. For
+-- What the parser gives of a call's bytes is a call of the operation that the first byte names, with legal fields; or a refusal of the table. For
 -- the claim, and for `station`.
 use Prim.Native.Nat.{ℕ}
 use mathlib.Core.Path.{_≡_, sym}
 use mathlib.Core.List.{[], _∷_}
 use mathlib.Core.Bool.{cond}
-use native.Mathlib.Omega.{arith}
 use lib.Dec.{eqb}
 use lib.ListN.{getD}
 use borrow.Author.Tests.{eqb-true}
@@ -45,7 +44,7 @@ module _ (op : ℕ) where
       (row 10 _ _ (λ e. give-reads _ CallValue.counts (tt, sym e))
       (row 11 _ _ (λ e. give-reads _ CallValue.summary (tt, sym e))
       (row 12 _ _ (λ e. into-reads _ CallValue.takeAudit _ (number-reads 2) (λ c p. (tt, sym e)))
-      (refuse-reads 23 (omega arith)))))))))))))
+      (refuse-reads 23 tt))))))))))))
 
 -- ---- the whole call
 
@@ -59,12 +58,12 @@ whole-reads {op} (gave {a} {u} p o) = go u
   where
     go : (s : Bytes) → LegalCall (whole (got a s)) × Operation op (whole (got a s))
     go [] = (p .0, called (p .1))
-    go (b ∷ s) = (omega arith, refused)
+    go (b ∷ s) = (tt, refused)
 whole-reads (refuses h) = (h, refused)
 
 call-reads : (b : Bytes) → Octets b → LegalCall (parseCall b) × Operation (getD b 0 0) (parseCall b)
 unfolding parseCall
-call-reads [] o = (omega arith, refused)
+call-reads [] o = (tt, refused)
 call-reads (op ∷ s) o = whole-reads (fields-reads op .reads s (octets-tail op s o))
 
 pub call-legal : (b : Bytes) → Octets b → LegalCall (parseCall b)

@@ -1,5 +1,6 @@
--- Every call on a legal station leaves a legal station, or is refused and not with 32; it is its own twin. For the claim, and for `station`.
-use Prim.Native.Nat.{ℕ, _+_, _≤_}
+-- Every call on a legal station leaves a legal station, or is refused with a number of the table; it is its own twin. For the claim, and for
+-- `station`.
+use Prim.Native.Nat.{ℕ, _+_}
 use mathlib.Core.Path.{_≡_, refl, ap, ap₂}
 use mathlib.Core.List.{List, [], _∷_, map}
 use mathlib.Core.Bool.{Bool}
@@ -11,6 +12,7 @@ use Rattle.definition.specs.Alarm.{Alarm}
 use Rattle.definition.specs.Station.{Station, Outcome, done, stopped}
 use Rattle.definition.specs.Answer.{Answer}
 use Rattle.definition.specs.Perform.{perform}
+use Rattle.definition.specs.Numbers.{stepRefusals, Among}
 use Rattle.definition.specs.Contracts.LegalStation.{LegalStation}
 use Rattle.definition.specs.Laws.Steps.Answers.{said, lists, kindOf, listing}
 use Rattle.definition.specs.Contracts.LegalFields.{LegalCall}
@@ -61,10 +63,10 @@ module _ {n : ℕ} {s t : Station} (p : On twin n [] [] s t) where
 
 -- ---- one call on a legal station
 
--- it is answered, and the station is legal and its active length has moved by what was answered; or refused, never with 32
+-- it is answered, and the station is legal and its active length has moved by what was answered; or refused, with a number of the table
 pub data Kept (k : ℕ) (s : Station) : Outcome Answer → Type 0 where
   answered : {x : Answer} {t : Station} → LegalStation t → said x .kind ≡ k → length (s .active) + said x .came ≡ length (t .active) + said x .went → Kept k s (done x t)
-  refused : {n : ℕ} → n ≤ 31 → Kept k s (stopped n)
+  refused : {n : ℕ} → Among n stepRefusals → Kept k s (stopped n)
 
 pub perform-kept : (c : CallValue) (n : ℕ) (s : Station) → LegalCall c → LegalStation s → Kept (kindOf (opOf c)) s (perform c n s)
 perform-kept c n s h l = go (perform-twin n (alike c) h h .from s s (self-twin s l))
@@ -73,10 +75,10 @@ perform-kept c n s h l = go (perform-twin n (alike c) h h .from s s (self-twin s
     go (both q) = answered (q .on .legal) (q .kind) (q .even)
     go (neither k) = refused k
 
--- a legal station and an answer of its kind; or a refusal that is not 32
+-- a legal station and an answer of its kind; or a refusal of the table
 abbrev pub Answered : Bool → Station → Outcome Answer → Type 0
 Answered b s (done x t) = LegalStation t × (lists x ≡ b)
-Answered b s (stopped n) = n ≤ 31
+Answered b s (stopped n) = Among n stepRefusals
 
 pub perform-legal : (c : CallValue) (n : ℕ) (s : Station) → LegalCall c → LegalStation s → Answered (listing c) s (perform c n s)
 perform-legal c n s h l = go (perform-kept c n s h l)

@@ -184,7 +184,7 @@ size-twin x x′ h = sym (size-blank x) ∙ ap (λ y. length (answerBytes y)) h 
 inLength-twin : {i n : ℕ} (k : ℕ) {m m′ : Step Answer} → Related (Twin n) (Told twin i n) m m′ → Related (Twin n) (Told twin i n) (inLength k m) (inLength k m′)
 unfolding inLength
 inLength-twin {i} {n} k x = bind-related x (λ a a′. known-related (λ s t p. p .says) (λ e.
-    cond-both (ap (ltb k) (size-twin a a′ e)) (refuse-related (omega arith)) (give-related (λ s t p. p))))
+    cond-both (ap (ltb k) (size-twin a a′ e)) (refuse-related tt) (give-related (λ s t p. p))))
 
 inRoom-twin : {i n : ℕ} (op k : ℕ) {m m′ : Step Answer} → Related (Twin n) (Told twin i n) m m′ → Related (Twin n) (Told twin i n) (inRoom op k m) (inRoom op k m′)
 inRoom-twin op k x = cond-related (asksRecord op) (inRecord-like twin-lasts k x) (inLength-twin k x)
@@ -207,7 +207,7 @@ step-twin (CallValue.history t l) h = historyList-twin t l
 step-twin CallValue.counts h = counts-twin
 step-twin CallValue.summary h = summary-twin
 step-twin (CallValue.takeAudit i) h = takeAudit-twin i
-step-twin (CallValue.refused i) h = refuse-related (omega (arith, h))
+step-twin (CallValue.refused i) h = refuse-related h
 
 pub perform-twin : {n : ℕ} {c c′ : CallValue} (k : ℕ) → TwinCalls c c′ → LegalCall c → LegalCall c′ → Related (Twin n) (Told twin (kindOf (opOf c)) n) (perform c k) (perform c′ k)
 unfolding perform
