@@ -79,7 +79,7 @@ DAMAGES = {
         ("a limit", HEADER, r"(ALARM_LONGEST_CAUSE +)96u", r"\g<1>64u"),
         ("a room on the page", PAGE, r"\| region \| 550 \| 128 \|", "| region | 550 | 64 |"),
     ],
-    (header, "refusals are 20 to 32"): [
+    (header, "refusals are 20 to 31"): [
         ("a refusal of the header", HEADER, r"(ALARM_REFUSED_UTF8 +)27u", r"\g<1>26u"),
         ("a refusal of the crate", "rust/alarm-register/src/refusal.rs", r"=> 31,", "=> 32,"),
     ],

@@ -76,12 +76,12 @@ def longest(root):
 
 
 def refusals(root):
-    """The header and the Rust crate have the same refusals, 20 to 32, once each."""
+    """The header and the Rust crate have the same refusals, 20 to 31, once each."""
     header = [number for name, number in constants(root).items() if name.startswith("ALARM_REFUSED_")]
     source = (root / "rust/alarm-register/src/refusal.rs").read_text(encoding="utf-8")
     crate = [int(number) for number in re.findall(r"^ +Refusal::\w+ => (\d+),", source, re.M)]
     for name, numbers in (("the header", header), ("the crate", crate)):
-        if numbers != list(range(20, 33)):
+        if numbers != list(range(20, 32)):
             yield f"{name} has {numbers}"
 
 
@@ -108,7 +108,7 @@ def compiled(compiler, language):
 CHECKS = {
     "offsets are the layout's": layout,
     "limits of strings are the layout's": longest,
-    "refusals are 20 to 32": refusals,
+    "refusals are 20 to 31": refusals,
     "a cabinet's program in C": compiled("gcc", ["-std=c99"]),
     "the same program in C++": compiled("g++", ["-x", "c++", "-std=c++11"]),
 }
