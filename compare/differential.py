@@ -3,12 +3,13 @@ import collections
 import subprocess
 from typing import NamedTuple, Optional
 
-import imports  # noqa: F401  (finds the reading of calls)
+import imports  # noqa: F401  (finds the reading of calls, and the table of numbers)
 import model
+import numbering
 from orders import Counters, Given, Open, Step, results, written
 from original import Original
 from reading import line
-from records import alarm_of, alarm_record, put_number, unlinked
+from records import ROOT, alarm_of, alarm_record, put_number, unlinked
 from soundness import sound_chains
 
 
@@ -188,8 +189,8 @@ ANSWERS = [f"operation {op} code {code}" for op, codes in CODES.items() for code
 
 
 def refusals(first):
-    """The refusals from this number on, but for 32, which no sound register gives."""
-    return [f"number {number}" for number in range(first, 32)]
+    """The refusals of docs/NUMBERS.md from this number on."""
+    return [f"number {number}" for number in numbering.refusals(ROOT) if number >= first]
 
 
 def result_name(order, outcome):

@@ -1,4 +1,4 @@
-"""Lets the programs of this folder find those of tests/: the reading of calls, and the list of checks."""
+"""Lets the programs of this folder find those of tests/: the reading of calls, the table of numbers, and the list of checks."""
 import pathlib
 import sys
 

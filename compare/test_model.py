@@ -1,12 +1,14 @@
 #!/usr/bin/env python3
 """The model on document 01's worked cases, and on the smallest inputs that tell its readings apart."""
 import sys
+from unittest import mock
 
 import imports  # noqa: F401  (finds the list of checks)
 import model
 from calls import call, pieces
 from checklist import run
 from records import WIDTH, alarm_of, alarm_record, event_of, event_record, number, put_number, unlinked
+from register import Register
 from soundness import sound_chains
 
 R = call(1)
@@ -143,9 +145,22 @@ def places(_root):
         ((2, 3, 1), [(1, {}), (1, RB), (7, dict(time=1))], [[], [4, 1, 2], [], [3, 5, 6]]),
         ((2, 3, 2), [(1, {}), (5, {}), (5, {}), (12, dict(n=2))], [[1], [2, 4], [], [5, 3, 6, 7]]),
         ((1, 1, 1), [(1, {}), (1, dict(severity=4))], [[1], [2], [], [3]]),
+        ((1, 1, 1), [(1, {}), (5, {})], [[1], [2], [3], []]),
+        ((1, 1, 1), [(1, {}), (5, {}), (1, {}), (2, {}), (1, {})], [[1], [2], [3], []]),
     ]:
         station = after(*calls, **dict(zip("ahe", limits)))
         yield from unlike(f"{limits} {calls}", sound_chains(station.register), wanted)
+
+
+def none_free(_root):
+    """A model that loses what is freed comes to a take with no free record: that is an error, and no number."""
+    station = after((1, {}), a=1, h=1, e=1)
+    with mock.patch.object(Register, "release", lambda self, chain, index: chain.remove(index)):
+        try:
+            given = station(5)
+        except IndexError:
+            return
+    yield f"it gives {given}"
 
 
 def histories(_root):
@@ -263,6 +278,7 @@ CHECKS = {
     "times": times,
     "policy and audit": audit,
     "records that chains take": places,
+    "a take with no free record": none_free,
     "history": histories,
     "answers": answers,
     "registers that no list reaches": unreached,

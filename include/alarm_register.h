@@ -26,7 +26,8 @@ extern "C" {
  * Makes a fresh register in reg[0..reg_len] with room for `active` active alarms, `history` entries of history and
  * `audit` audit events. reg_len must be ALARM_REGISTER_LENGTH(active, history, audit).
  *
- * Returns 0, or ALARM_REFUSED_LIMITS or ALARM_REFUSED_REGISTER_LENGTH; then reg is as it was. *length becomes 0.
+ * Returns 0, or ALARM_REFUSED_LIMITS or ALARM_REFUSED_REGISTER_LENGTH (20, 21), and no other number; on a refusal reg is
+ * as it was. *length becomes 0.
  *
  * No pointer may be null, even where its length is 0, and the parts must not overlap.
  */
@@ -36,9 +37,12 @@ uint32_t alarm_open(uint8_t *reg, size_t reg_len, uint32_t active, uint32_t hist
 /*
  * Performs one call on a register, and writes the answer to answer[0..*length]. The bytes behind it stay as they were.
  *
- * Returns 0, or one of ALARM_REFUSED_UNSOUND to ALARM_REFUSED_FREE_ENDED; then *length is 0, and reg and answer are as
- * they were. An answer such as ALARM_CODE_UNAUTHORIZED is no refusal: the result is 0, and the answer's first byte
- * tells.
+ * Returns 0, or one of ALARM_REFUSED_UNSOUND to ALARM_REFUSED_ID_ACTIVE (22 to 31), and no other number; on a refusal
+ * *length is 0, and reg and answer are as they were. An answer such as ALARM_CODE_UNAUTHORIZED is no refusal: the result
+ * is 0, and the answer's first byte tells.
+ *
+ * That alarm_open and alarm_step return these numbers alone is proved (theorem `numbers`, docs/NUMBERS.md): a host that
+ * handles the refusals listed below handles all there are.
  *
  * An answer slice of ALARM_ANSWER_ROOM is enough for operations 1 to 7 and 11, and needed for them. A list of n records
  * needs ALARM_LIST_ROOM(n); no answer needs more than ALARM_LIST_ROOM of the largest of the three limits.
@@ -58,7 +62,10 @@ uint32_t alarm_step(uint8_t *reg, size_t reg_len, const uint8_t *call, size_t ca
 #define ALARM_LIST_ROOM(records) \
     ((size_t)ALARM_HEAD_WIDTH + (size_t)ALARM_RECORD_WIDTH * (size_t)(records))
 
-/* Refusals: what alarm_open and alarm_step return besides 0. The first fault wins, in this order. */
+/*
+ * Refusals: what alarm_open (20, 21) and alarm_step (22 to 31) return besides 0. Checks go in this order, and the first
+ * fault wins; a call is read field by field, and of 23 to 29 that of the first field at fault is returned.
+ */
 #define ALARM_REFUSED_LIMITS                   20u  /* opening: a limit is 0 or above 65,535 */
 #define ALARM_REFUSED_REGISTER_LENGTH          21u  /* opening: reg_len is not that of the limits */
 #define ALARM_REFUSED_UNSOUND                  22u  /* the bytes are not a sound register */
@@ -71,7 +78,6 @@ uint32_t alarm_step(uint8_t *reg, size_t reg_len, const uint8_t *call, size_t ca
 #define ALARM_REFUSED_REGION                   29u  /* a raise with a region that is present and empty */
 #define ALARM_REFUSED_ANSWER_LENGTH            30u  /* answer_len is too short for the answer */
 #define ALARM_REFUSED_ID_ACTIVE                31u  /* a raise would store an id that is active */
-#define ALARM_REFUSED_FREE_ENDED               32u  /* no record is free */
 
 /* Operations: a call's first byte. The fields that follow are in docs/CALLS.md. */
 #define ALARM_OP_RAISE                         1u

@@ -19,6 +19,7 @@ CODE, SPECS, LAWS = "crates/octets/src/lib.rt", "crates/octets/specs/Bytes.antt"
 VECTORS = "crates/sha256_vectors/stdout"
 JSON, PAGE, CLAIMS, ARCHITECTURE = "docs/layout.json", "docs/LAYOUT.md", "docs/CLAIMS.md", "docs/ARCHITECTURE.md"
 HEADER, WRONG, TRUST = "include/alarm_register.h", "tests/wrong/octets.txt", "docs/TRUST.md"
+TABLE, NUMBERS, REFUSAL = "docs/NUMBERS.md", "crates/definition/specs/Numbers.antt", "rust/alarm-register/src/refusal.rs"
 
 # For each check: what is damaged, in which file, the pattern, and what takes its place.
 DAMAGES = {
@@ -79,9 +80,38 @@ DAMAGES = {
         ("a limit", HEADER, r"(ALARM_LONGEST_CAUSE +)96u", r"\g<1>64u"),
         ("a room on the page", PAGE, r"\| region \| 550 \| 128 \|", "| region | 550 | 64 |"),
     ],
-    (header, "refusals are 20 to 32"): [
-        ("a refusal of the header", HEADER, r"(ALARM_REFUSED_UTF8 +)27u", r"\g<1>26u"),
-        ("a refusal of the crate", "rust/alarm-register/src/refusal.rs", r"=> 31,", "=> 32,"),
+    (header, "numbers are those of docs/NUMBERS.md"): [
+        ("a number on the page", TABLE, r"^\| 31 ", "| 32 "),
+        ("a row of the page too many", TABLE, r"^\| 31 (.*\n)", r"\g<0>| 33 \1"),
+        ("a row of the page left out", TABLE, r"^\| 31 .*\n", ""),
+        ("0 left out of the page", TABLE, r"^\| 0 .*\n", ""),
+        ("two rows of the page exchanged", TABLE, r"^(\| 26 .*\n)(.*\n)", r"\2\1"),
+        ("another name on the page", TABLE, r"`ALARM_REFUSED_UTF8`", "`ALARM_REFUSED_UTF16`"),
+        ("a name for 0 on the page", TABLE, r"^(\| 0 .*\|) \|$", r"\1 `ALARM_DONE` |"),
+        ("a number of another entry point on the page", TABLE, r"^(\| 22 .*)`alarm_step`", r"\1`alarm_open`, `alarm_step`"),
+        ("an entry point that is not there on the page", TABLE, r"^(\| 22 .*)`alarm_step`", r"\1`alarm_step`, `alarm_stop`"),
+        ("a removed number that is given", TABLE, r"^\| 32 ", "| 31 "),
+        ("a number of the definition", NUMBERS, r"31 ∷ \[\]", "32 ∷ []"),
+        ("a number of the definition too many", NUMBERS, r"31 ∷ \[\]", "31 ∷ 32 ∷ []"),
+        ("a number of the definition left out", NUMBERS, r"21 ∷ \[\]", "[]"),
+        ("two numbers of the definition exchanged", NUMBERS, r"24 ∷ 25", "25 ∷ 24"),
+        ("a list of the definition left out", NUMBERS, r"^openingRefusals = .*\n", ""),
+        ("a list of the definition too many", NUMBERS, r"\Z", "\nabbrev pub panelRefusals : List ℕ\npanelRefusals = 22 ∷ []\n"),
+        ("a number of the header", HEADER, r"(ALARM_REFUSED_UTF8 +)27u", r"\g<1>26u"),
+        ("a number of the header too many", HEADER, r"^#define ALARM_REFUSED_ID_ACTIVE .*\n", r"\g<0>#define ALARM_REFUSED_FREE_ENDED 32u\n"),
+        ("a number of the header left out", HEADER, r"^#define ALARM_REFUSED_ID_ACTIVE .*\n", ""),
+        ("two numbers of the header exchanged", HEADER, r"^(#define ALARM_REFUSED_VALUE .*\n)(.*\n)", r"\2\1"),
+        ("another name in the header", HEADER, r"ALARM_REFUSED_UTF8 ", "ALARM_REFUSED_TEXT "),
+        ("an entry point of the header too many", HEADER, r"^uint32_t alarm_step\(", r"uint32_t alarm_stop(void);\n\g<0>"),
+        ("a number of the crate", REFUSAL, r"=> 31,", "=> 32,"),
+        ("a number of the crate too many", REFUSAL, r"^( +)Refusal::IdActive => 31,\n", r"\g<0>\1Refusal::FreeEnded => 32,\n"),
+        ("a number of the crate left out", REFUSAL, r"^ +Refusal::IdActive => 31,\n", ""),
+        ("two numbers of the crate exchanged", REFUSAL, r"^( +Refusal::Value => .*\n)(.*\n)", r"\2\1"),
+        ("a refusal of the crate's enum too many", REFUSAL, r"^    IdActive,\n", r"\g<0>    /// 32: no record is free.\n    FreeEnded,\n"),
+        ("another number in the crate's enum", REFUSAL, r"/// 31: ", "/// 32: "),
+        ("a refusal left out of the crate's ALL", REFUSAL, r"^ +Refusal::IdActive,\n", ""),
+        ("two refusals of the crate's ALL exchanged", REFUSAL, r"^( +Refusal::Value,\n)(.*\n)", r"\2\1"),
+        ("another name in the crate", REFUSAL, r"^    Utf8,", "    Text,"),
     ],
     (repository, "crates are listed"): [
         ("a crate left out", "crates.txt", r"^octets:.*\n", ""),

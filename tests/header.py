@@ -1,5 +1,5 @@
 #!/usr/bin/env python3
-"""The C header: its constants are the layout's, and a cabinet's program compiles as C and as C++ and runs."""
+"""The C header: its constants are the layout's, its refusals those of the table of numbers; a cabinet's program compiles as C and C++ and runs."""
 import json
 import pathlib
 import re
@@ -8,9 +8,11 @@ import subprocess
 import sys
 import tempfile
 
+import numbering
 from checklist import Skip, run
+from numbering import HEADER
 
-HEADER, PROGRAM, PRINTED = "include/alarm_register.h", "examples/cabinet.c", "examples/cabinet.out"
+PROGRAM, PRINTED = "examples/cabinet.c", "examples/cabinet.out"
 LIBRARY = "target/staticlib/libstation.a"
 WARNINGS = ["-Wall", "-Wextra", "-Werror", "-pedantic"]
 
@@ -75,14 +77,23 @@ def longest(root):
             yield f"ALARM_LONGEST_{name} is {given.get(name)}, the room {rooms.get(LONGEST.get(name))}"
 
 
-def refusals(root):
-    """The header and the Rust crate have the same refusals, 20 to 32, once each."""
-    header = [number for name, number in constants(root).items() if name.startswith("ALARM_REFUSED_")]
-    source = (root / "rust/alarm-register/src/refusal.rs").read_text(encoding="utf-8")
-    crate = [int(number) for number in re.findall(r"^ +Refusal::\w+ => (\d+),", source, re.M)]
-    for name, numbers in (("the header", header), ("the crate", crate)):
-        if numbers != list(range(20, 33)):
-            yield f"{name} has {numbers}"
+def numbers(root):
+    """The page's table, the definition's lists, the header and the Rust crate have the same numbers in the same order, and no removed one."""
+    rows, lists = numbering.given(root), numbering.defined(root)
+    for entry, name in numbering.ENTRIES.items():
+        page, found = [row.number for row in rows if entry in row.entries], lists.pop(name, [])
+        if page != [0, *found]:
+            yield f"{entry} returns {page} by {numbering.PAGE}, and {name} of {numbering.DEFINITION} is {found}"
+    yield from (f"{numbering.DEFINITION}: {name} is the list of no entry point" for name in lists)
+    for where, found in ((numbering.PAGE, {entry for row in rows for entry in row.entries}), (HEADER, set(numbering.functions(root)))):
+        if found != set(numbering.ENTRIES):
+            yield f"{where} has the entry points {sorted(found)}"
+    page = [(str(row.number), row.name) for row in rows if row.name]
+    for where, found in numbering.named(root):
+        if found != page:
+            at = next((i for i, (one, other) in enumerate(zip(found, page)) if one != other), min(len(found), len(page)))
+            yield f"{where} has {found[at:at + 1]} where {numbering.PAGE} has {page[at:at + 1]}"
+    yield from (f"{numbering.PAGE} has {number}, which was removed" for number in numbering.removed(root) if number in [row.number for row in rows])
 
 
 def compiled(compiler, language):
@@ -108,7 +119,7 @@ def compiled(compiler, language):
 CHECKS = {
     "offsets are the layout's": layout,
     "limits of strings are the layout's": longest,
-    "refusals are 20 to 32": refusals,
+    "numbers are those of docs/NUMBERS.md": numbers,
     "a cabinet's program in C": compiled("gcc", ["-std=c99"]),
     "the same program in C++": compiled("g++", ["-x", "c++", "-std=c++11"]),
 }

@@ -14,6 +14,7 @@ import tempfile
 
 from checklist import HERE, Skip, run
 from header import HEADER, LIBRARY, WARNINGS
+from numbering import refusals
 
 sys.path.insert(1, str(HERE / "compare"))
 import generate
@@ -27,7 +28,7 @@ PROGRAM = HERE / "tests/stack.c"
 OPENING, OTHER = 0, 13  # beside the operations 1 to 12
 PAIRS = "pairs of severity and cause"
 TITLES = {OPENING: "opening", **{op: f"{op} {name}" for op, (name, _) in OPERATIONS.items()}, OTHER: "calls without an operation"}
-ANSWERS, REFUSALS = {(0, code) for code in range(1, 12)}, {(number, 0) for number in range(20, 32)}
+ANSWERS, REFUSALS = {(0, code) for code in range(1, 12)}, {(number, 0) for number in refusals(HERE)}
 
 
 # ---- lists of calls

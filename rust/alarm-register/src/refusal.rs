@@ -3,7 +3,9 @@ use core::fmt;
 
 /// Why opening or a call was refused. The register and the answer slice are then as they were.
 ///
-/// Each has its number of document 01 and a sentence; where several faults are there, the first in this order is told.
+/// Each has its number and a sentence. Checks go in this order, and the first fault is told; a call is read field by field,
+/// and of 23 to 29 that of the first field at fault. Opening gives 20 and 21 and a call 22 to 31: that the library returns no
+/// other number is proved (docs/NUMBERS.md), so a host that handles [`Refusal::ALL`] handles all.
 ///
 /// ```
 /// use alarm_register::Refusal;
@@ -37,15 +39,13 @@ pub enum Refusal {
     AnswerLength,
     /// 31: the raise would store an id that is active.
     IdActive,
-    /// 32: no record is free.
-    FreeEnded,
     /// A number that this crate does not know: the linked library is newer.
     Unlisted(u32),
 }
 
 impl Refusal {
-    /// All refusals of document 01, by rising number.
-    pub const ALL: [Refusal; 13] = [
+    /// All refusals, by rising number.
+    pub const ALL: [Refusal; 12] = [
         Refusal::Limits,
         Refusal::RegisterLength,
         Refusal::Unsound,
@@ -58,7 +58,6 @@ impl Refusal {
         Refusal::Region,
         Refusal::AnswerLength,
         Refusal::IdActive,
-        Refusal::FreeEnded,
     ];
 
     /// The refusal of a number.
@@ -67,7 +66,7 @@ impl Refusal {
         known.unwrap_or(Refusal::Unlisted(number))
     }
 
-    /// The number of document 01.
+    /// The number that the library returns.
     pub fn number(self) -> u32 {
         match self {
             Refusal::Limits => 20,
@@ -82,7 +81,6 @@ impl Refusal {
             Refusal::Region => 29,
             Refusal::AnswerLength => 30,
             Refusal::IdActive => 31,
-            Refusal::FreeEnded => 32,
             Refusal::Unlisted(number) => number,
         }
     }
@@ -104,7 +102,6 @@ impl Refusal {
             Refusal::Region => "the raise has a region that is present and empty",
             Refusal::AnswerLength => "the slice for the answer is too short",
             Refusal::IdActive => "the raise would store an id that is active",
-            Refusal::FreeEnded => "no record is free",
             Refusal::Unlisted(_) => "the library gave a number that this program does not know",
         }
     }

@@ -102,7 +102,7 @@ impl<'a> Register<'a> {
     /// Performs an operation, with the slice as room for the answer.
     ///
     /// # Errors
-    /// One of 22 to 32; register and slice are then as they were. [`ANSWER_ROOM`](crate::ANSWER_ROOM) is enough for all operations but
+    /// One of 22 to 31; register and slice are then as they were. [`ANSWER_ROOM`](crate::ANSWER_ROOM) is enough for all operations but
     /// lists, counts and taking audit events; [`Limits::answer_room`] is enough for these.
     ///
     /// # Panics
@@ -115,7 +115,7 @@ impl<'a> Register<'a> {
     /// Performs a call given as bytes; gives the part of the slice that the answer fills.
     ///
     /// # Errors
-    /// One of 22 to 32; register and slice are then as they were.
+    /// One of 22 to 31; register and slice are then as they were.
     pub fn step<'b>(&mut self, call: &[u8], answer: &'b mut [u8]) -> Result<&'b [u8], Refusal> {
         entry::step(self.bytes, call, answer)
     }

@@ -135,6 +135,16 @@ fn refusals_of_opening_and_of_short_answers() {
     assert_eq!(register.perform(&ListActive { severity: None }, &mut [0; 16]).map(|list| list.len()), Ok(0));
 }
 
+#[test]
+fn refusals_have_numbers_of_their_own_and_32_is_none_of_them() {
+    for refusal in Refusal::ALL {
+        assert_eq!(Refusal::from_number(refusal.number()), refusal);
+    }
+    for number in [19, 32, u32::MAX] {
+        assert_eq!(Refusal::from_number(number), Refusal::Unlisted(number));
+    }
+}
+
 /// A source of numbers that are always the same.
 fn numbers() -> impl FnMut() -> u64 {
     let mut state = 9u64;
