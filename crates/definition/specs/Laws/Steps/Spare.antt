@@ -64,11 +64,18 @@ legal-strays s l = elim (decLt 0 (strays s)) [
 pub data Took {A : Type 0} (chain : Station → List (Entry A)) (a : A) (s : Station) : Outcome (Unit {0}) → Type 0 where
   took : {t : Station} (i : ℕ) → chain t ≡ chain s ++ (entry i a ∷ []) → Took chain a s (done tt t)
 
--- no take is refused, and none loses what it is given
-pub takes-done : (a : Alarm) (v : Event) (s : Station) →
-    Took (λ t. t .active) a s (addActive a s) × Took (λ t. t .history) a s (addHistory a s) × Took (λ t. t .audit) v s (addAudit v s)
+-- the three takes, from s
+abbrev Takes : Alarm → Event → Station → Type 0
+Takes a v s = Took (λ t. t .active) a s (addActive a s) × Took (λ t. t .history) a s (addHistory a s) × Took (λ t. t .audit) v s (addAudit v s)
+
+-- none is refused and none loses what it is given, on any station
+pub takes-done : (a : Alarm) (v : Event) (s : Station) → Takes a v s
 unfolding addActive addHistory addAudit
-takes-done a v s = (took _ refl, took _ refl, took _ refl)
+takes-done a v s = go (s .free)
+  where
+    go : (f : List ℕ) → Takes a v (withFree f s)
+    go [] = (took _ refl, took _ refl, took _ refl)
+    go (i ∷ f) = (took _ refl, took _ refl, took _ refl)
 
 -- a take that leaves no stray: there was none, and it found a free record
 found : {A : Type 0} (z : ℕ) (c : List (Entry A)) (f : List ℕ) (a : A) → times 0 (c ++ (entry (getD f 0 0) a ∷ [])) + timesIn 0 (drop 1 f) ≡ 0 →
