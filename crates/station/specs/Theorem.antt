@@ -1,21 +1,24 @@
 -- Demand 3, on what the entry points promise; that a sound register stays sound; which numbers they return; and that no call comes to the end
 -- of the free chain.
-use Prim.Native.Nat.{ℕ}
+use Prim.Native.Nat.{ℕ, _+_, _*_}
 use mathlib.Core.Path.{_≡_, refl}
 use mathlib.Core.List.{_∷_}
-use mathlib.Core.Bool.{Bool, true, false, cond, _||_}
+use mathlib.Core.Bool.{Bool, true, false, cond, _&&_, _||_}
 use lib.Dec.{T, eqb}
+use lib.ListN.{length}
 use Rattle.octets.specs.Bytes.{Bytes, Octets}
 use Rattle.octets.specs.BoolLaws.{holds, true-holds}
 use Rattle.definition.specs.Parse.{parseCall}
-use Rattle.definition.specs.Station.{Station, Outcome, done, stopped}
+use Rattle.definition.specs.Limits.{recordWidth}
+use Rattle.definition.specs.Book.{isLimit}
+use Rattle.definition.specs.Station.{Station, Outcome, done, stopped, fresh}
 use Rattle.definition.specs.Answer.{Answer}
 use Rattle.definition.specs.Perform.{perform}
 use Rattle.definition.specs.Laws.Steps.Answers.{listing}
 use Rattle.definition.specs.Laws.Steps.Spare.{spare, spared, NoStray, Leaves, legal-strays, spare-left}
 use Rattle.definition.specs.Laws.Twins.KeptLegal.{Answered, perform-legal}
 use Rattle.definition.specs.Laws.Text.ParsedLegal.{call-legal}
-use Rattle.definition.specs.Sound.{station, sound}
+use Rattle.definition.specs.Sound.{encode, station, sound}
 use Rattle.definition.specs.Laws.Steps.SoundStation.{sound-holds, legal-sound}
 use Rattle.definition.specs.Opening.{opened, openOf}
 use Rattle.definition.specs.Lists.{replyOf, stepOf}
@@ -46,10 +49,14 @@ stays-sound b call n o h =
 
 -- ---- what the entry points return is 0 or a number of the table
 
-open-listed : (x y : Bool) (b c : Bytes) → Among (cond x (cond y (opened 0 b) (opened 21 c)) (opened 20 c) .number) (0 ∷ openingRefusals)
-open-listed true true b c = tt
-open-listed true false b c = tt
-open-listed false y b c = tt
+open-listed : (a h e : ℕ) (slice : Bytes) → Among (openOf a h e slice .number) (0 ∷ openingRefusals)
+unfolding openOf
+open-listed a h e slice = go (isLimit a && (isLimit h && isLimit e)) (eqb (length slice) (recordWidth * (1 + (a + h + e))))
+  where
+    go : (x y : Bool) → Among (cond x (cond y (opened 0 (encode (fresh a h e))) (opened 21 slice)) (opened 20 slice) .number) (0 ∷ openingRefusals)
+    go true true = tt
+    go true false = tt
+    go false y = tt
 
 or-right : (x y : Bool) → T y → T (x || y)
 or-right true y h = tt
@@ -68,8 +75,7 @@ step-listed b call n o = go (sound b) refl
     go false e = rw e tt
 
 pub numbers : Numbers
-unfolding openOf
-numbers = record { opening = λ a h e slice. open-listed _ _ _ slice; step = step-listed }
+numbers = record { opening = open-listed; step = step-listed }
 
 -- ---- M-107: no call on a sound register comes to the end of the free chain: with record z more behind it, a call does the same, and leaves z there
 
@@ -79,4 +85,5 @@ leaves-none kind s (stopped k) l = tt
 
 pub spare-stays : (b call : Bytes) (n z : ℕ) → Octets call → T (sound b) →
     perform (parseCall call) n (spare z (station b)) ≡ spared z (perform (parseCall call) n (station b))
-spare-stays b call n z o h = spare-left z (parseCall call) n (station b) (leaves-none _ (station b) _ (called b call n o h))
+spare-stays b call n z o h =
+    spare-left z (parseCall call) n (station b) (leaves-none _ (station b) (perform (parseCall call) n (station b)) (called b call n o h))
