@@ -1,8 +1,9 @@
--- The cases marked *, proved by computation of the definition. Nothing cites them.
+-- The cases marked *, and that each number is given, proved by computation of the definition. Nothing cites them.
 pub mod Calls
 pub mod Shown
 pub mod Computed
 pub mod Stations
 pub mod Key
 pub mod Marked
+pub mod EachNumber
 pub mod TwinRaises

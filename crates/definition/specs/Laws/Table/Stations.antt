@@ -1,5 +1,5 @@
 -- A list of calls on a legal station's bytes goes from station to station: a reply is what `perform` gives on the station, and its register
--- is the next one's bytes. So rows of the table are computed without testing 10,752 bytes for soundness at each call. For Marked.
+-- is the next one's bytes. So rows of the table are computed without testing 10,752 bytes for soundness at each call. For Marked and EachNumber.
 use Prim.Native.Nat.{ℕ, zero, suc}
 use mathlib.Core.Path.{_≡_, refl, ap, _∙_}
 use mathlib.Core.List.{List, [], _∷_, map}
@@ -21,7 +21,7 @@ use Rattle.definition.specs.Laws.Steps.StationBook.{fresh-legalStation}
 use Rattle.definition.specs.Laws.Twins.KeptLegal.{Answered, perform-legal}
 use Rattle.definition.specs.Laws.Twins.ClaimHolds.{step-legal}
 use Rattle.definition.specs.Laws.Table.Computed.{keyed, parsed, performed, written}
-use Rattle.definition.specs.Laws.Table.Shown.{ample, repliesTo, offsets}
+use Rattle.definition.specs.Laws.Table.Shown.{register, ample, repliesTo, offsets}
 
 -- ---- that calls are bytes, by a test
 
@@ -72,11 +72,15 @@ run-legal (p ∷ l) s h t =
 -- ---- the table's calls
 
 -- the replies to them, opened whole
-unfoldable pub computed : List Bytes → List Reply
+unfoldable pub computed : List (Bytes × ℕ) → List Reply
 unfolding replies fresh upFrom keyed parsed performed written offsets
-computed l = replies (fresh 2 3 1) (map ample l)
+computed l = replies (fresh 2 3 1) l
 
 -- what is read of the replies may be read of those that stations give
-pub by-stations : {A : Type 0} (read : List Reply → A) (l : List Bytes) {x : A} → T (allOctets (map ample l)) → read (computed l) ≡ x → read (repliesTo l) ≡ x
-unfolding computed repliesTo
-by-stations read l t e = ap read (run-legal (map ample l) (fresh 2 3 1) (fresh-legalStation 2 3 1 (omega arith) (omega arith) (omega arith)) t) ∙ e
+pub by-stations-of : {A : Type 0} (read : List Reply → A) (l : List (Bytes × ℕ)) {x : A} → T (allOctets l) → read (computed l) ≡ x → read (run l register) ≡ x
+unfolding computed
+by-stations-of read l t e = ap read (run-legal l (fresh 2 3 1) (fresh-legalStation 2 3 1 (omega arith) (omega arith) (omega arith)) t) ∙ e
+
+pub by-stations : {A : Type 0} (read : List Reply → A) (l : List Bytes) {x : A} → T (allOctets (map ample l)) → read (computed (map ample l)) ≡ x → read (repliesTo l) ≡ x
+unfolding repliesTo
+by-stations read l t e = by-stations-of read (map ample l) t e
