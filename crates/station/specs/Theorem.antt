@@ -15,7 +15,7 @@ use Rattle.definition.specs.Station.{Station, Outcome, done, stopped, fresh}
 use Rattle.definition.specs.Answer.{Answer}
 use Rattle.definition.specs.Perform.{perform}
 use Rattle.definition.specs.Laws.Steps.Answers.{listing}
-use Rattle.definition.specs.Laws.Steps.Spare.{spare, spared, NoStray, Leaves, legal-strays, spare-left}
+use Rattle.definition.specs.Laws.Steps.Surplus.{surplus, surplusIn, NoStray, Leaves, legal-strays, surplus-left}
 use Rattle.definition.specs.Laws.Twins.KeptLegal.{Answered, perform-legal}
 use Rattle.definition.specs.Laws.Text.ParsedLegal.{call-legal}
 use Rattle.definition.specs.Sound.{encode, station, sound}
@@ -83,7 +83,7 @@ leaves-none : (kind : Bool) (s : Station) (x : Outcome Answer) → Answered kind
 leaves-none kind s (done a t) l = legal-strays t (l .0 .chains)
 leaves-none kind s (stopped k) l = tt
 
-pub spare-stays : (b call : Bytes) (n z : ℕ) → Octets call → T (sound b) →
-    perform (parseCall call) n (spare z (station b)) ≡ spared z (perform (parseCall call) n (station b))
-spare-stays b call n z o h =
-    spare-left z (parseCall call) n (station b) (leaves-none _ (station b) (perform (parseCall call) n (station b)) (called b call n o h))
+pub surplus-stays : (b call : Bytes) (n z : ℕ) → Octets call → T (sound b) →
+    perform (parseCall call) n (surplus z (station b)) ≡ surplusIn z (perform (parseCall call) n (station b))
+surplus-stays b call n z o h =
+    surplus-left z (parseCall call) n (station b) (leaves-none _ (station b) (perform (parseCall call) n (station b)) (called b call n o h))

@@ -12,4 +12,4 @@ pub mod SideBySide
 pub mod PairedChains
 pub mod Alike
 pub mod AlikeSteps
-pub mod Spare
+pub mod Surplus

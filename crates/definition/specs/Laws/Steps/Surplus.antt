@@ -1,6 +1,6 @@
 -- M-107: no call comes to the end of the free chain. A step is a function from a station to its outcome, which does not show what was taken
 -- on the way. What shows is one record more: behind the free chain, it changes nothing of what the call does, and is still the last there
--- afterwards (`spare-left`). So it is with every call that is refused or leaves no stray; a stray is an index 0 on a chain, and a legal station
+-- afterwards (`surplus-left`). So it is with every call that is refused or leaves no stray; a stray is an index 0 on a chain, and a legal station
 -- has none (`legal-strays`). For the theorem on bytes in `station`. And no take is refused, on any station (`takes-done`).
 --
 -- Why: a take from an ended chain leaves a stray, and no move takes a stray away. So where none is left, none was there before, and each take
@@ -31,13 +31,13 @@ use Rattle.definition.specs.Laws.Book.Occurrences.{times-last, times-rep
 abbrev pub withFree : List ℕ → Station → Station
 withFree f s = holding s (s .active) (s .history) (s .audit) f (s .successes) (s .failures)
 
--- one record more, behind the free chain; and so in what a step leaves
-abbrev pub spare : ℕ → Station → Station
-spare z s = withFree (s .free ++ (z ∷ [])) s
+-- s with one record more, z, behind the free chain; and so in what a step leaves
+abbrev pub surplus : ℕ → Station → Station
+surplus z s = withFree (s .free ++ (z ∷ [])) s
 
-abbrev pub spared : {A : Type 0} → ℕ → Outcome A → Outcome A
-spared z (done a s) = done a (spare z s)
-spared z (stopped n) = stopped n
+abbrev pub surplusIn : {A : Type 0} → ℕ → Outcome A → Outcome A
+surplusIn z (done a s) = done a (surplus z s)
+surplusIn z (stopped n) = stopped n
 
 -- how often index 0, which is no record's, stands on the chains
 abbrev pub strays : Station → ℕ
@@ -94,10 +94,10 @@ off-chain i (e ∷ c) = elim (ℕ-discrete (e .index) i) [
 ]
 
 module _ (z : ℕ) where
-  -- ---- where a step is refused or leaves a station that is Q, the spare record changes nothing, and the station before was P
+  -- ---- where a step is refused or leaves a station that is Q, the surplus record changes nothing, and the station before was P
 
   record Goes (P Q : Station → Type 0) {A : Type 0} (m : Step A) : Type 0 where
-    from : (s : Station) → Leaves Q (m s) → P s × (m (spare z s) ≡ spared z (m s))
+    from : (s : Station) → Leaves Q (m s) → P s × (m (surplus z s) ≡ surplusIn z (m s))
 
   abbrev Any : Station → Type 0
   Any s = Unit {0}
@@ -107,16 +107,16 @@ module _ (z : ℕ) where
   Frugal = Goes NoStray NoStray
 
   -- it may be refused, and take if it is not
-  abbrev Spares : {A : Type 0} → Step A → Type 0
-  Spares = Goes Any NoStray
+  abbrev Careful : {A : Type 0} → Step A → Type 0
+  Careful = Goes Any NoStray
 
   -- it takes nothing
   abbrev Steady : {A : Type 0} → Step A → Type 0
   Steady = Goes Any Any
 
   module _ {A : Type 0} {Q : Station → Type 0} where
-    looks : {f : Station → A} → ((s : Station) → f (spare z s) ≡ f s) → Goes Q Q (look f)
-    looks h = record { from = λ s p. (p, λ i. done (h s i) (spare z s)) }
+    looks : {f : Station → A} → ((s : Station) → f (surplus z s) ≡ f s) → Goes Q Q (look f)
+    looks h = record { from = λ s p. (p, λ i. done (h s i) (surplus z s)) }
 
     gives : {a : A} → Goes Q Q (give a)
     gives = looks (λ s. refl)
@@ -140,8 +140,8 @@ module _ (z : ℕ) where
   unfolding _>>=_
   bind {A} {P = P} {Q} {R} {m} {k} x h = record { from = λ s. go s (m s) (x .from s) }
     where
-      go : (s : Station) (o : Outcome A) → (Leaves Q o → P s × (m (spare z s) ≡ spared z o)) → Leaves R (after o k) →
-          P s × (after (m (spare z s)) k ≡ spared z (after o k))
+      go : (s : Station) (o : Outcome A) → (Leaves Q o → P s × (m (surplus z s) ≡ surplusIn z o)) → Leaves R (after o k) →
+          P s × (after (m (surplus z s)) k ≡ surplusIn z (after o k))
       go s (done a t) f p = let q = h a .from t p in let r = f (q .0) in (r .0, ap (λ o. after o k) (r .1) ∙ q .1)
       go s (stopped n) f p = let r = f tt in (r .0, ap (λ o. after o k) (r .1))
 
@@ -163,7 +163,7 @@ module _ (z : ℕ) where
   frees-history = record { from = λ s. go s (s .history) refl }
     where
       go : (s : Station) (c : List (Entry Alarm)) → s .history ≡ c → Leaves NoStray (oldestHistoryOf c s) →
-          NoStray s × (oldestHistoryOf c (spare z s) ≡ spared z (oldestHistoryOf c s))
+          NoStray s × (oldestHistoryOf c (surplus z s) ≡ surplusIn z (oldestHistoryOf c s))
       go s [] q p = (p, refl)
       go s (e ∷ c) q p = (omega (arith, ap (times 0) q), refl)
 
@@ -194,11 +194,11 @@ module _ (z : ℕ) where
   unfolding store
   stores a = bind (adds-active a) (λ u. bind (into-history a) (λ v. gives))
 
-  stores-new : (a : Alarm) → Spares (storeNew a)
+  stores-new : (a : Alarm) → Careful (storeNew a)
   unfolding storeNew
   stores-new a = bind (looks (λ s. refl)) (λ o. either (present o) refuses (weaken (stores a)))
 
-  raises : (c : RaiseValue) → Spares (raise c)
+  raises : (c : RaiseValue) → Careful (raise c)
   unfolding raise raiseAt
   raises c =
       bind (looks (λ s. refl)) (option _
@@ -229,7 +229,7 @@ module _ (z : ℕ) where
   unfolding freeOldestAudit
   frees-audit = record { from = λ s p. (tt, go s (s .audit)) }
     where
-      go : (s : Station) (c : List (Entry Event)) → oldestAuditOf c (spare z s) ≡ spared z (oldestAuditOf c s)
+      go : (s : Station) (c : List (Entry Event)) → oldestAuditOf c (surplus z s) ≡ surplusIn z (oldestAuditOf c s)
       go s [] = refl
       go s (e ∷ c) = refl
 
@@ -256,15 +256,15 @@ module _ (z : ℕ) where
 
   -- ---- the calls
 
-  in-record : (n : ℕ) {P : Station → Type 0} {m : Step Answer} → Goes P NoStray m → Spares (inRecord n m)
+  in-record : (n : ℕ) {P : Station → Type 0} {m : Step Answer} → Goes P NoStray m → Careful (inRecord n m)
   unfolding inRecord
   in-record n x = either (ltb n 1552) refuses (weaken x)
 
-  in-length : (n : ℕ) {m : Step Answer} → Steady m → Spares (inLength n m)
+  in-length : (n : ℕ) {m : Step Answer} → Steady m → Careful (inLength n m)
   unfolding inLength
   in-length n x = bind x (λ a. either (ltb n (length (answerBytes a))) refuses (weaken gives))
 
-  performs : (c : CallValue) (n : ℕ) → Spares (perform c n)
+  performs : (c : CallValue) (n : ℕ) → Careful (perform c n)
   unfolding perform activeList historyList counts summary
   performs (CallValue.raise c) n = in-record n (raises c)
   performs (CallValue.clear c) n = in-record n (clears c)
@@ -281,5 +281,5 @@ module _ (z : ℕ) where
   performs (CallValue.refused k) n = in-length n refuses
 
   -- what the call does with a record more is what it does without
-  pub spare-left : (c : CallValue) (n : ℕ) (s : Station) → Leaves NoStray (perform c n s) → perform c n (spare z s) ≡ spared z (perform c n s)
-  spare-left c n s h = performs c n .from s h .1
+  pub surplus-left : (c : CallValue) (n : ℕ) (s : Station) → Leaves NoStray (perform c n s) → perform c n (surplus z s) ≡ surplusIn z (perform c n s)
+  surplus-left c n s h = performs c n .from s h .1
