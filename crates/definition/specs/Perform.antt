@@ -1,4 +1,4 @@
--- A call on a station, with refusals 30 and 31; what the parser refused stays refused.
+-- A call on a station, with refusal 30; what the parser refused stays refused.
 use Prim.Native.Nat.{ℕ}
 use mathlib.Core.Bool.{Bool, cond, _&&_, _||_}
 use lib.Dec.{leb, eqb, ltb}
