@@ -13,7 +13,7 @@ openingRefusals = 20 ∷ 21 ∷ []
 
 -- 22 "not sound", 23 "empty, or op not 1 to 12", 24 "ends early, or bytes left over", 25 "a byte outside its values", 26 "length above its
 -- limit", 27 "string not UTF-8", 28 "not a cause", 29 "raise with an empty region", 30 "shorter than 1,552 .. or than the answer", 31 "raise
--- would store an id that is active"
+-- would store an id that is active". M-107: "no call on any sound register gives 32, then remove it from code and table"
 abbrev pub stepRefusals : List ℕ
 stepRefusals = 22 ∷ 23 ∷ 24 ∷ 25 ∷ 26 ∷ 27 ∷ 28 ∷ 29 ∷ 30 ∷ 31 ∷ []
 

@@ -150,21 +150,24 @@ module _ {k : Likeness} (l : Lasting k) where
   abbrev pub BelowLimit : ℕ → Station → Station → Type 0
   BelowLimit n s t = On k n [] [] s t × (n < s .limitA)
 
-  pub add-active : {n : ℕ} {a a′ : Alarm} → k .New a a′ → BothLegal 3 a a′ → Related (BelowLimit n) (Only (On k (suc n) [] [])) (addActive a) (addActive a′)
+  -- from two stations whose next free records may hold the two alarms
+  pub add-active-at : {n : ℕ} {a a′ : Alarm} (s t : Station) → BelowLimit n s t → BothLegal 3 a a′ → k .Pair (entry (nextFree s) a) (entry (nextFree t) a′) →
+      Both (Only (On k (suc n) [] [])) (addActive a s) (addActive a′ t)
   unfolding addActive
-  add-active {a = a} {a′} h (g, g′) = record {
-    from = λ s t (p, room).
-        let fits : length (t .active) < t .limitA = omega (arith, room, p .size, p .limit, length-each (k .Pair) (s .active) (t .active) (p .pairs)) in
-        both (record {
-          legal = ended (addActive-legal s (p .legal) a g (omega (arith, room, p .size)));
-          legal′ = ended (addActive-legal t (p .legal′) a′ g′ fits);
-          size = length-last (s .active) (entry (nextFree s) a) ∙ ap suc (p .size);
-          limit = p .limit;
-          pairs = last-each (k .Pair) (s .active) (t .active) (p .pairs) (l .stored h (p .rest));
-          picked = nothing;
-          rest = l .taken (p .rest);
-        });
-  }
+  add-active-at {a = a} {a′} s t (p, room) (g, g′) h =
+      let fits : length (t .active) < t .limitA = omega (arith, room, p .size, p .limit, length-each (k .Pair) (s .active) (t .active) (p .pairs)) in
+      both (record {
+        legal = ended (addActive-legal s (p .legal) a g (omega (arith, room, p .size)));
+        legal′ = ended (addActive-legal t (p .legal′) a′ g′ fits);
+        size = length-last (s .active) (entry (nextFree s) a) ∙ ap suc (p .size);
+        limit = p .limit;
+        pairs = last-each (k .Pair) (s .active) (t .active) (p .pairs) h;
+        picked = nothing;
+        rest = l .taken (p .rest);
+      })
+
+  pub add-active : {n : ℕ} {a a′ : Alarm} → k .New a a′ → BothLegal 3 a a′ → Related (BelowLimit n) (Only (On k (suc n) [] [])) (addActive a) (addActive a′)
+  add-active h g = record { from = λ s t p. add-active-at s t p g (l .stored h (p .0 .rest)) }
 
   -- ---- what steps look at
 
