@@ -13,6 +13,7 @@ use Rattle.octets.specs.Put.{Put}
 use Rattle.octets.specs.BoolLaws.{both-left, both-right, true-holds}
 use Rattle.octets.specs.SameLaws.{same→eq, same-refl}
 use Rattle.definition.specs.Cause.{names, oneOf}
+use Rattle.definition.specs.Numbers.{among}
 use Rattle.cause.specs.Meaning.{named, placeOf, orElse}
 use Rattle.cause.specs.declared.names.Named.{Named}
 use Rattle.cause.specs.declared.names.Named.the-variants.{At, Nothing}
@@ -97,10 +98,6 @@ pub last-place : (n k : ℕ) → k < suc n → NoneOf k (down n) → k ≡ n
 last-place n k l h = omega (arith, at-least n k h)
 
 -- ---- no name has the length
-
-abbrev among : ℕ → List ℕ → Bool
-among n [] = false
-among n (l ∷ ls) = eqb n l || among n ls
 
 not-among : (n : ℕ) (ls : List ℕ) → NoneOf n ls → T (among n ls) → ⊥
 not-among n [] h t = t

@@ -1,4 +1,5 @@
--- Demand 3: "one claim on whole lists, not one for each call". What opening and calls returned and left, and what is claimed of it.
+-- Demand 3: "one claim on whole lists, not one for each call". What opening and calls returned and left, and what is claimed of it; and of the
+-- numbers.
 use Prim.Native.Nat.{ℕ}
 use mathlib.Core.Path.{_≡_}
 use mathlib.Core.List.{List, [], _∷_, map}
@@ -8,6 +9,7 @@ use Rattle.definition.specs.Station.{fresh}
 use Rattle.definition.specs.Opening.{openOf}
 use Rattle.definition.specs.Sound.{encode}
 use Rattle.definition.specs.Lists.{Reply, stepOf, run}
+use Rattle.definition.specs.Numbers.{openingRefusals, stepRefusals, Among}
 use Rattle.definition.specs.Mask.{maskRegister, maskAnswer}
 use Rattle.definition.specs.Twins.{AtEach, TwinLists}
 
@@ -89,3 +91,10 @@ pub record Claim : Type 0 where
   pub twins :
       (a h e : ℕ) (b b′ : Bytes) (l l′ : List Made) → Fresh a h e b → Fresh a h e b′ → AllOctets l → AllOctets l′ → Trace b l → Trace b′ l′ →
       TwinLists (map asked l) (map asked l′) → AtEach Alike l l′
+
+-- ---- the numbers: what opening and calls give is 0 or a number of the table, so that a host that handles these handles all
+
+pub record Numbers : Type 0 where
+  pub opening : (a h e : ℕ) (slice : Bytes) → Among (openOf a h e slice .number) (0 ∷ openingRefusals)
+  -- what slices hold is bytes
+  pub step : (b call : Bytes) (n : ℕ) → Octets call → Among (stepOf b call n .number) (0 ∷ stepRefusals)

@@ -1,4 +1,4 @@
--- Document 01, in its order
+-- Document 01, in its order, as the requests of document 02 have amended it
 
 -- "The call enters"
 pub mod Limits
@@ -26,9 +26,9 @@ pub mod Steps
 pub mod Answer
 pub mod Reports
 pub mod Perform
+pub mod Numbers
 -- "Lists"
 pub mod Lists
-pub mod Numbers
 pub mod Twins
 pub mod Mask
 pub mod Claim

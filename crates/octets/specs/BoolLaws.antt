@@ -1,6 +1,6 @@
--- Tests, and tests joined by and.
+-- Tests, and tests joined by and, or by or.
 use mathlib.Core.Path.{_≡_, refl, sym, subst}
-use mathlib.Core.Bool.{Bool, true, false, _&&_}
+use mathlib.Core.Bool.{Bool, true, false, _&&_, _||_}
 use lib.Dec.{T}
 
 pub and-false : (x : Bool) → x && false ≡ false
@@ -30,6 +30,14 @@ both-left false b t = t
 pub both-right : (a b : Bool) → T (a && b) → T b
 both-right true b t = t
 both-right false b t = absurd t
+
+pub either-right : (a b : Bool) → T b → T (a || b)
+either-right true b t = tt
+either-right false b t = t
+
+pub either-on : (a b c : Bool) → (T b → T c) → T (a || b) → T (a || c)
+either-on true b c f t = tt
+either-on false b c f t = f t
 
 pub holds : (x : Bool) → T x → x ≡ true
 holds true t = refl

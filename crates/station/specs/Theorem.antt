@@ -1,13 +1,13 @@
--- Demand 3, on what the entry points promise; that a sound register stays sound; which numbers they return; and that no call comes to the end
--- of the free chain.
+-- Demand 3, on what the entry points promise; that a sound register stays sound; which numbers are given; and that no call takes from a free
+-- chain that has ended.
 use Prim.Native.Nat.{ℕ, _+_, _*_}
 use mathlib.Core.Path.{_≡_, refl}
 use mathlib.Core.List.{_∷_}
-use mathlib.Core.Bool.{Bool, true, false, cond, _&&_, _||_}
+use mathlib.Core.Bool.{Bool, true, false, cond, _&&_}
 use lib.Dec.{T, eqb}
 use lib.ListN.{length}
 use Rattle.octets.specs.Bytes.{Bytes, Octets}
-use Rattle.octets.specs.BoolLaws.{holds, true-holds}
+use Rattle.octets.specs.BoolLaws.{either-right, holds, true-holds}
 use Rattle.definition.specs.Parse.{parseCall}
 use Rattle.definition.specs.Limits.{recordWidth}
 use Rattle.definition.specs.Book.{isLimit}
@@ -22,8 +22,8 @@ use Rattle.definition.specs.Sound.{encode, station, sound}
 use Rattle.definition.specs.Laws.Steps.SoundStation.{sound-holds, legal-sound}
 use Rattle.definition.specs.Opening.{opened, openOf}
 use Rattle.definition.specs.Lists.{replyOf, stepOf}
-use Rattle.definition.specs.Numbers.{openingRefusals, stepRefusals, among, Among, Numbers}
-use Rattle.definition.specs.Claim.{Claim}
+use Rattle.definition.specs.Numbers.{openingRefusals, stepRefusals, among, Among}
+use Rattle.definition.specs.Claim.{Claim, Numbers}
 use Rattle.definition.specs.Laws.Twins.ClaimHolds.{claim}
 
 -- from an opening that returned 0, for every list of calls, the refused ones included. `Claim` speaks of what is returned and left by
@@ -47,7 +47,7 @@ stays-sound b call n o h =
     rw (holds (sound b) h)
     (reply-sound b _ (perform (parseCall call) n (station b)) h (called b call n o h))
 
--- ---- what the entry points return is 0 or a number of the table
+-- ---- what an opening or a call gives, and by its contract an entry point returns, is 0 or a number of the table
 
 open-listed : (a h e : ℕ) (slice : Bytes) → Among (openOf a h e slice .number) (0 ∷ openingRefusals)
 unfolding openOf
@@ -58,13 +58,9 @@ open-listed a h e slice = go (isLimit a && (isLimit h && isLimit e)) (eqb (lengt
     go true false = tt
     go false y = tt
 
-or-right : (x y : Bool) → T y → T (x || y)
-or-right true y h = tt
-or-right false y h = h
-
 reply-listed : (b : Bytes) (kind : Bool) (x : Outcome Answer) → Answered kind (station b) x → Among (replyOf b x .number) (0 ∷ stepRefusals)
 reply-listed b kind (done a s) l = tt
-reply-listed b kind (stopped k) l = or-right (eqb k 0) (among k stepRefusals) l
+reply-listed b kind (stopped k) l = either-right (eqb k 0) (among k stepRefusals) l
 
 step-listed : (b call : Bytes) (n : ℕ) → Octets call → Among (stepOf b call n .number) (0 ∷ stepRefusals)
 unfolding stepOf
@@ -77,7 +73,8 @@ step-listed b call n o = go (sound b) refl
 pub numbers : Numbers
 numbers = record { opening = open-listed; step = step-listed }
 
--- ---- M-107: no call on a sound register comes to the end of the free chain: with record z more behind it, a call does the same, and leaves z there
+-- ---- M-107: no call on a sound register takes from a free chain that has ended: with record z more behind it, a call does the same, and leaves
+-- ---- z there
 
 leaves-none : (kind : Bool) (s : Station) (x : Outcome Answer) → Answered kind s x → Leaves NoStray x
 leaves-none kind s (done a t) l = legal-strays t (l .0 .chains)

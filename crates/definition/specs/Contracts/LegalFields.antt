@@ -14,7 +14,7 @@ use Rattle.definition.specs.Value.{ObjectValue, KeyValue, RaiseValue, Po
 use Rattle.definition.specs.Chain.{Entry}
 use Rattle.definition.specs.Alarm.{Alarm, Event}
 use Rattle.definition.specs.Station.{Station}
-use Rattle.definition.specs.Numbers.{stepRefusals, Among}
+use Rattle.definition.specs.Numbers.{callRefusals, Among}
 
 abbrev pub Time : ℕ → Type 0
 Time t = t < 18446744073709551616
@@ -128,4 +128,4 @@ LegalCall (CallValue.history t l) = Unit {0}
 LegalCall CallValue.counts = Unit {0}
 LegalCall CallValue.summary = Unit {0}
 LegalCall (CallValue.takeAudit k) = Unit {0}
-LegalCall (CallValue.refused k) = Among k stepRefusals
+LegalCall (CallValue.refused k) = Among k callRefusals

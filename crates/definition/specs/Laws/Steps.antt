@@ -1,4 +1,4 @@
--- Steps on stations: what they keep, two of them side by side, and what the code of one promises.
+-- Steps on stations: what they keep, two of them side by side, what the code of one promises, and that none takes from an ended free chain.
 pub mod LegalMoves
 pub mod LegalSteps
 pub mod ChangedLegal

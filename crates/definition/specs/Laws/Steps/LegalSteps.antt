@@ -57,7 +57,7 @@ module _ (s : Station) (l : LegalStation s) where
       ends-after _ (freeActive-legal s l i h) (λ u t p.
       ends-weaken (intoHistory-legal t (p .0) a f) (λ v r q. (q .legal, q .same ∙ p .1, q .limit ∙ p .2)))
 
--- ---- M-107: wherever a step takes a record, the free chain of a legal station has one
+-- ---- M-107: wherever a step takes a record, the free chain of a legal station has one: behind each of the three tests before a take
 
 module _ (s : Station) (l : LegalStation s) where
   -- a raise stores a new alarm where the active chain is not full

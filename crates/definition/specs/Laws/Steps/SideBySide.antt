@@ -1,6 +1,5 @@
--- Two steps side by side: from stations that are P they end in values and stations that are Q, or are refused with the same number of the
--- table.
--- One law for each way that steps are put together. For stations that are alike.
+-- Two steps side by side: from stations that are P they end in values and stations that are Q, or are refused with the same number, which the
+-- table has. One law for each way that steps are put together. For stations that are alike.
 use Prim.Native.Nat.{ℕ}
 use mathlib.Core.Path.{_≡_, refl, subst}
 use mathlib.Core.Bool.{Bool, true, false, cond}

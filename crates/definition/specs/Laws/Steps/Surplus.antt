@@ -1,10 +1,11 @@
--- M-107: no call comes to the end of the free chain. A step is a function from a station to its outcome, which does not show what was taken
--- on the way. What shows is one record more: behind the free chain, it changes nothing of what the call does, and is still the last there
--- afterwards (`surplus-left`). So it is with every call that is refused or leaves no stray; a stray is an index 0 on a chain, and a legal station
--- has none (`legal-strays`). For the theorem on bytes in `station`. And no take is refused, on any station (`takes-done`).
+-- M-107: no call takes from a free chain that has ended. A step is a function from a station to its outcome, which does not show what was
+-- taken on the way. What shows is one record more: behind the free chain, it changes nothing of what the call does, and is still the last
+-- there afterwards (`surplus-left`). So it is with every call that is refused or leaves no stray; a stray is an index 0 on a chain, and a
+-- legal station has none (`legal-strays`). For the theorem on bytes in `station`.
 --
 -- Why: a take from an ended chain leaves a stray, and no move takes a stray away. So where none is left, none was there before, and each take
--- found a free record. The laws of steps go this way, from what holds after a step to what held before it.
+-- found a free record. The laws of steps go this way, from what holds after a step to what held before it. A station with a surplus is not
+-- legal, so that the laws of two stations that are alike (AlikeSteps) do not speak of it.
 use Prim.Native.Nat.{ℕ, _+_, _≤_}
 use mathlib.Core.Path.{_≡_, refl, ap, _∙_}
 use mathlib.Core.List.{List, [], _∷_, _++_}
@@ -19,17 +20,14 @@ use Rattle.octets.specs.Bytes.{Bytes}
 use Rattle.definition.specs.Value.{RaiseValue, ClearValue, PlainValue, PolicyValue, CallValue, Action, acknowledging, suppressing}
 use Rattle.definition.specs.Chain.{Entry, entry, present, without, times}
 use Rattle.definition.specs.Alarm.{Alarm, Event, sameIdentity}
-use Rattle.definition.specs.Station.{Station, holding, Outcome, done, stopped, Step, after, _>>=_, give, refuse, look, forEach, addActive, addHistory, addAudit, freeActive, oldestHistoryOf, freeOldestHistory, oldestAuditOf, freeOldestAudit, changeActive, changeHistory, countSuccess, countFailure}
+use Rattle.definition.specs.Station.{Station, Outcome, done, stopped, Step, after, _>>=_, give, refuse, look, forEach, addActive, addHistory, addAudit, freeActive, oldestHistoryOf, freeOldestHistory, oldestAuditOf, freeOldestAudit, changeActive, changeHistory, countSuccess, countFailure}
 use Rattle.definition.specs.Answer.{Answer, answerBytes}
 use Rattle.definition.specs.Steps.{makeRoom, extendHistory, historyAfter, intoHistory, change, retire, store, storeNew, raiseAt, raise, clearAt, clear, act, plainAt, plain, eventStored, eventLost, attempt, deny, allow, needsOverride, policyAt, policy, expire}
 use Rattle.definition.specs.Reports.{activeList, historyList, counts, summary, takeAudit}
 use Rattle.definition.specs.Perform.{inRecord, inLength, perform}
 use Rattle.definition.specs.Contracts.LegalStation.{records, timesIn, LegalChains}
+use Rattle.definition.specs.Laws.Steps.LegalMoves.{withFree}
 use Rattle.definition.specs.Laws.Book.Occurrences.{times-last, times-replaced, timesIn-cons, upFrom-range}
-
--- s with another free chain
-abbrev pub withFree : List ℕ → Station → Station
-withFree f s = holding s (s .active) (s .history) (s .audit) f (s .successes) (s .failures)
 
 -- s with one record more, z, behind the free chain; and so in what a step leaves
 abbrev pub surplus : ℕ → Station → Station
@@ -39,7 +37,7 @@ abbrev pub surplusIn : {A : Type 0} → ℕ → Outcome A → Outcome A
 surplusIn z (done a s) = done a (surplus z s)
 surplusIn z (stopped n) = stopped n
 
--- how often index 0, which is no record's, stands on the chains
+-- how often index 0, the header's, stands on the chains
 abbrev pub strays : Station → ℕ
 strays s = times 0 (s .active) + times 0 (s .history) + times 0 (s .audit) + timesIn 0 (s .free)
 
@@ -58,31 +56,14 @@ legal-strays s l = elim (decLt 0 (strays s)) [
   | no p ↦ omega arith
 ]
 
--- ---- takes
-
--- done, and the chain has one record more, the last, which holds a
-pub data Took {A : Type 0} (chain : Station → List (Entry A)) (a : A) (s : Station) : Outcome (Unit {0}) → Type 0 where
-  took : {t : Station} (i : ℕ) → chain t ≡ chain s ++ (entry i a ∷ []) → Took chain a s (done tt t)
-
--- the three takes, from s
-abbrev Takes : Alarm → Event → Station → Type 0
-Takes a v s = Took (λ t. t .active) a s (addActive a s) × Took (λ t. t .history) a s (addHistory a s) × Took (λ t. t .audit) v s (addAudit v s)
-
--- none is refused and none loses what it is given, on any station
-pub takes-done : (a : Alarm) (v : Event) (s : Station) → Takes a v s
-unfolding addActive addHistory addAudit
-takes-done a v s = go (s .free)
-  where
-    go : (f : List ℕ) → Takes a v (withFree f s)
-    go [] = (took _ refl, took _ refl, took _ refl)
-    go (i ∷ f) = (took _ refl, took _ refl, took _ refl)
+-- ---- the moves on their own
 
 -- a take that leaves no stray: there was none, and it found a free record
-found : {A : Type 0} (z : ℕ) (c : List (Entry A)) (f : List ℕ) (a : A) → times 0 (c ++ (entry (getD f 0 0) a ∷ [])) + timesIn 0 (drop 1 f) ≡ 0 →
+finds-free : {A : Type 0} (z : ℕ) (c : List (Entry A)) (f : List ℕ) (a : A) → times 0 (c ++ (entry (getD f 0 0) a ∷ [])) + timesIn 0 (drop 1 f) ≡ 0 →
     (times 0 c + timesIn 0 f ≡ 0) × (f ++ (z ∷ []) ≡ getD f 0 0 ∷ (drop 1 f ++ (z ∷ [])))
 unfolding timesIn
-found z c [] a h = absurd (omega (arith, times-last c 0 a 0))
-found z c (i ∷ f) a h = (omega (arith, times-last c i a 0), refl)
+finds-free z c [] a h = absurd (omega (arith, times-last c 0 a 0))
+finds-free z c (i ∷ f) a h = (omega (arith, times-last c i a 0), refl)
 
 -- a chain loses at most the record that is freed
 off-chain : {A : Type 0} (i : ℕ) (c : List (Entry A)) → times 0 c ≤ times 0 (without i c) + timesIn 0 (i ∷ [])
@@ -106,7 +87,7 @@ module _ (z : ℕ) where
   abbrev Frugal : {A : Type 0} → Step A → Type 0
   Frugal = Goes NoStray NoStray
 
-  -- it may be refused, and take if it is not
+  -- it may take, or be refused before it takes
   abbrev Careful : {A : Type 0} → Step A → Type 0
   Careful = Goes Any NoStray
 
@@ -155,7 +136,7 @@ module _ (z : ℕ) where
   adds-history : (a : Alarm) → Frugal (addHistory a)
   unfolding addHistory
   adds-history a = record {
-    from = λ s p. let g = found z (s .history) (s .free) a (omega arith) in (omega (arith, g .0), ap (λ f. addHistory a (withFree f s)) (g .1));
+    from = λ s p. let g = finds-free z (s .history) (s .free) a (omega arith) in (omega (arith, g .0), ap (λ f. addHistory a (withFree f s)) (g .1));
   }
 
   frees-history : Frugal freeOldestHistory
@@ -179,7 +160,7 @@ module _ (z : ℕ) where
   adds-active : (a : Alarm) → Frugal (addActive a)
   unfolding addActive
   adds-active a = record {
-    from = λ s p. let g = found z (s .active) (s .free) a (omega arith) in (omega (arith, g .0), ap (λ f. addActive a (withFree f s)) (g .1));
+    from = λ s p. let g = finds-free z (s .active) (s .free) a (omega arith) in (omega (arith, g .0), ap (λ f. addActive a (withFree f s)) (g .1));
   }
 
   changes : (answer : Alarm → Answer) (i : ℕ) (a : Alarm) → Frugal (change answer i a)
@@ -222,7 +203,7 @@ module _ (z : ℕ) where
   adds-audit : (v : Event) → Frugal (addAudit v)
   unfolding addAudit
   adds-audit v = record {
-    from = λ s p. let g = found z (s .audit) (s .free) v (omega arith) in (omega (arith, g .0), ap (λ f. addAudit v (withFree f s)) (g .1));
+    from = λ s p. let g = finds-free z (s .audit) (s .free) v (omega arith) in (omega (arith, g .0), ap (λ f. addAudit v (withFree f s)) (g .1));
   }
 
   frees-audit : Steady freeOldestAudit
@@ -250,9 +231,9 @@ module _ (z : ℕ) where
       either (needsOverride x p (e .content)) (denies _ _)
       (either (eqb (p .verdict .authorised) 0) (denies _ _) (bind (attempts _) (λ b. either b (changes _ _ _) gives)))))
 
-  takes-audit : (n : ℕ) → Steady (takeAudit n)
+  gives-events : (n : ℕ) → Steady (takeAudit n)
   unfolding takeAudit
-  takes-audit n = bind (looks (λ s. refl)) (λ d. bind (each (λ e. frees-audit) d) (λ u. gives))
+  gives-events n = bind (looks (λ s. refl)) (λ d. bind (each (λ e. frees-audit) d) (λ u. gives))
 
   -- ---- the calls
 
@@ -277,7 +258,7 @@ module _ (z : ℕ) where
   performs (CallValue.history t l) n = in-length n (looks (λ s. refl))
   performs CallValue.counts n = in-length n (looks (λ s. refl))
   performs CallValue.summary n = in-record n (looks (λ s. refl))
-  performs (CallValue.takeAudit k) n = in-length n (takes-audit k)
+  performs (CallValue.takeAudit k) n = in-length n (gives-events k)
   performs (CallValue.refused k) n = in-length n refuses
 
   -- what the call does with a record more is what it does without

@@ -1,4 +1,4 @@
--- Each number of the table is given by some opening or call, so that a host handles none in vain: M-107 was on one that is not.
+-- Each number of the table is given by some opening or call, so that a host handles none in vain. 32 was never given, and M-107 removed it.
 use Prim.Native.Nat.{ℕ}
 use mathlib.Core.Path.{_≡_, refl}
 use mathlib.Core.List.{List, [], _∷_, map}
@@ -36,7 +36,7 @@ abbrev numbersOf : List Reply → List ℕ
 numbersOf q = map (λ (r : Reply). r .number) q
 
 pub record EachNumber : Type 0 where
-  -- limits of 0; a slice of no byte
+  -- a limit of 0; a slice of no byte
   pub opening : openOf 0 1 1 [] .number ∷ openOf 1 1 1 [] .number ∷ [] ≡ openingRefusals
   -- 22 on a register of no byte; then the others on one of A=2, H=3, E=1
   pub step : stepOf [] [] 0 .number ∷ drop 1 (numbersOf (run faults register)) ≡ stepRefusals

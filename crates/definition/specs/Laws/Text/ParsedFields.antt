@@ -1,4 +1,4 @@
--- What each reader of a call's fields gives is legal, and its refusals are numbers of the table. For whole calls (ParsedLegal).
+-- What each reader of a call's fields gives is legal, and its refusals are the call's of the table. For whole calls (ParsedLegal).
 use Prim.Native.Nat.{ℕ, _^_, _≤_, _<_}
 use mathlib.Core.Path.{_≡_, refl, _∙_}
 use mathlib.Core.List.{[], _∷_}
@@ -18,14 +18,14 @@ use Rattle.definition.specs.Laws.Text.Cause.{cause-stored, cause-length,
 use Rattle.definition.specs.Value.{ObjectValue, PlacesValue, KeyValue, RaiseHeadValue, ScopeValue, ActorValue, RequestValue}
 use Rattle.definition.specs.Reader.{Out, got, bad, Reader, next, _>>=_, give, refuse, into, bytes, number, choice, blob, text, optional, causeIs, causeText}
 use Rattle.definition.specs.Parse.{pair, sessionStore, dataPlaneQueue, objectOf, object, scopeOf, scope, raiseHead, places, key, raiseBody, named, raiseFields, clearFields, plainFields, actor, request, verdict, policyFields, severityOrAll}
-use Rattle.definition.specs.Numbers.{stepRefusals, Among}
+use Rattle.definition.specs.Numbers.{callRefusals, Among}
 use Rattle.definition.specs.Contracts.LegalFields.{Time, Maybe, BlobOf, TextOf, CauseOf, ObjectOf, LegalKey, LegalScope, LegalRaise, LegalPolicy}
 
--- ---- a reader that gives a P of bytes, or refuses with a number of the table
+-- ---- a reader that gives a P of bytes, or refuses with one of the call's numbers
 
 pub data Given {A : Type 0} (P : A → Type 0) : Out A → Type 0 where
   gave : {a : A} {u : Bytes} → P a → Octets u → Given P (got a u)
-  refuses : {n : ℕ} → Among n stepRefusals → Given P (bad n)
+  refuses : {n : ℕ} → Among n callRefusals → Given P (bad n)
 
 pub record Reads {A : Type 0} (P : A → Type 0) (r : Reader A) : Type 0 where
   pub reads : (s : Bytes) → Octets s → Given P (r s)
@@ -33,7 +33,7 @@ pub record Reads {A : Type 0} (P : A → Type 0) (r : Reader A) : Type 0 where
 pub give-reads : {A : Type 0} (P : A → Type 0) (a : A) → P a → Reads P (give a)
 give-reads P a p = record { reads = λ s o. gave p o }
 
-pub refuse-reads : {A : Type 0} {P : A → Type 0} (n : ℕ) → Among n stepRefusals → Reads P (refuse n)
+pub refuse-reads : {A : Type 0} {P : A → Type 0} (n : ℕ) → Among n callRefusals → Reads P (refuse n)
 refuse-reads n h = record { reads = λ s o. refuses h }
 
 pub if-reads : {A : Type 0} {P : A → Type 0} (b : Bool) (q r : Reader A) → (b ≡ true → Reads P q) → (b ≡ false → Reads P r) → Reads P (cond b q r)

@@ -1,4 +1,4 @@
--- What the parser gives of a call's bytes is a call of the operation that the first byte names, with legal fields; or a refusal of the table. For
+-- What the parser gives of a call's bytes is a call of the operation that the first byte names, with legal fields; or one of the call's refusals. For
 -- the claim, and for `station`.
 use Prim.Native.Nat.{ℕ}
 use mathlib.Core.Path.{_≡_, sym}

@@ -1,5 +1,5 @@
 -- Every call on twins leaves twins: policy calls, reports, and all calls together. For the claim, and for KeptLegal.
-use Prim.Native.Nat.{ℕ}
+use Prim.Native.Nat.{ℕ, suc}
 use mathlib.Core.Path.{_≡_, refl, sym, ap, ap₂, _∙_, subst}
 use mathlib.Core.List.{List, [], _∷_, _++_, map}
 use mathlib.Core.Bool.{Bool, false}
@@ -9,6 +9,7 @@ use lib.Dec.{leb, eqb, ltb}
 use lib.ListN.{length, take, drop, getD}
 use borrow.Author.Tests.{leb-false}
 use Rattle.octets.specs.Bytes.{Bytes, same}
+use Rattle.octets.specs.BoolLaws.{either-right, either-on}
 use Rattle.definition.specs.Value.{RaiseValue, PolicyValue, CallValue, opOf, Action, acknowledging, suppressing}
 use Rattle.definition.specs.Chain.{Entry, entry, contents, those}
 use Rattle.definition.specs.Laws.Book.Contents.{map-map, those-map}
@@ -19,6 +20,7 @@ use Rattle.definition.specs.Laws.Steps.Answers.{size-blank, blankAnswer,
 use Rattle.definition.specs.Steps.{eventStored, eventLost, attempt, eventOf, deny, allow, needsOverride, policyAt, policy}
 use Rattle.definition.specs.Reports.{activeList, historyList, rating, tally, counts, severityOf, worst, worstImpact, summary, freeOne, takeAudit}
 use Rattle.definition.specs.Perform.{stepFor, inLength, asksRecord, inRoom, perform}
+use Rattle.definition.specs.Numbers.{callRefusals, stepRefusals, among, Among}
 use Rattle.definition.specs.Contracts.LegalFields.{Time, LegalEvent, LegalPolicy, LegalCall}
 use Rattle.definition.specs.Laws.Steps.ChangedLegal.{event-legal}
 use Rattle.definition.specs.Laws.Steps.LegalMoves.{addAudit-legal, freeOldestAudit-legal, countSuccess-legal, countFailure-legal}
@@ -194,6 +196,15 @@ pub data TwinCalls : CallValue → CallValue → Type 0 where
   alike : (c : CallValue) → TwinCalls c c
   reworded : (c : RaiseValue) (t : Bytes) (d : Option Bytes) → TwinCalls (CallValue.raise c) (CallValue.raise (worded t d c))
 
+-- ---- a call's refusals are among those of a step
+
+listed-before : (n : ℕ) (l r : List ℕ) → Among n l → Among n (l ++ r)
+listed-before n [] r h = absurd h
+listed-before n (k ∷ l) r h = either-on (eqb n k) (among n l) (among n (l ++ r)) (listed-before n l r) h
+
+call-listed : (n : ℕ) → Among n callRefusals → Among n stepRefusals
+call-listed n h = either-right (eqb n 22) _ (listed-before n callRefusals (drop (suc (length callRefusals)) stepRefusals) h)
+
 step-twin : {n : ℕ} (c : CallValue) → LegalCall c → Related (Twin n) (Told twin (kindOf (opOf c)) n) (stepFor c) (stepFor c)
 step-twin (CallValue.raise c) h = raise-like twin-lasts {c = c} {w = c .text} {d = c .details} tt h h
 step-twin (CallValue.clear c) h = clear-like twin-lasts c h
@@ -207,7 +218,7 @@ step-twin (CallValue.history t l) h = historyList-twin t l
 step-twin CallValue.counts h = counts-twin
 step-twin CallValue.summary h = summary-twin
 step-twin (CallValue.takeAudit i) h = takeAudit-twin i
-step-twin (CallValue.refused i) h = refuse-related h
+step-twin (CallValue.refused i) h = refuse-related (call-listed i h)
 
 pub perform-twin : {n : ℕ} {c c′ : CallValue} (k : ℕ) → TwinCalls c c′ → LegalCall c → LegalCall c′ → Related (Twin n) (Told twin (kindOf (opOf c)) n) (perform c k) (perform c′ k)
 unfolding perform
