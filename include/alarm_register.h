@@ -64,7 +64,7 @@ uint32_t alarm_step(uint8_t *reg, size_t reg_len, const uint8_t *call, size_t ca
 
 /*
  * Refusals: what alarm_open (20, 21) and alarm_step (22 to 31) return besides 0. Checks go in this order, and the first
- * fault wins; a call is read field by field, and of 23 to 29 that of the first field at fault is returned.
+ * fault wins; a call is read field by field, and of 23 to 29 the one that is met first is returned.
  */
 #define ALARM_REFUSED_LIMITS                   20u  /* opening: a limit is 0 or above 65,535 */
 #define ALARM_REFUSED_REGISTER_LENGTH          21u  /* opening: reg_len is not that of the limits */

@@ -84,7 +84,7 @@ def numbers(root):
         page, found = [row.number for row in rows if entry in row.entries], lists.pop(name, [])
         if page != [0, *found]:
             yield f"{entry} returns {page} by {numbering.PAGE}, and {name} of {numbering.DEFINITION} is {found}"
-    yield from (f"{numbering.DEFINITION}: {name} is the list of no entry point" for name in lists)
+    yield from (f"{numbering.DEFINITION}: {name} is the list of no entry point" for name in lists if name not in numbering.PARTS)
     for where, found in ((numbering.PAGE, {entry for row in rows for entry in row.entries}), (HEADER, set(numbering.functions(root)))):
         if found != set(numbering.ENTRIES):
             yield f"{where} has the entry points {sorted(found)}"

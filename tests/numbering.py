@@ -4,8 +4,9 @@ from typing import NamedTuple
 
 PAGE, DEFINITION = "docs/NUMBERS.md", "crates/definition/specs/Numbers.antt"
 HEADER, CRATE = "include/alarm_register.h", "rust/alarm-register/src/refusal.rs"
-# The entry points, and the definition's list of the refusals of each.
+# The entry points, and the definition's list of the refusals of each; a list of no entry point, which others hold.
 ENTRIES = {"alarm_open": "openingRefusals", "alarm_step": "stepRefusals"}
+PARTS = ["callRefusals"]
 # The columns of the page's two tables.
 GIVEN = ["No.", "Checked at", "Given if", "Entry points", "From", "Name in the header"]
 REMOVED = ["No.", "From", "Was given if", "Removed by", "Why"]
@@ -47,9 +48,11 @@ def refusals(root):
 
 
 def defined(root):
-    """The definition's lists by name."""
-    text = re.sub(r"--.*", "", read(root, DEFINITION))
-    return {name: [int(number) for number in re.findall(r"\d+", numbers)] for name, numbers in re.findall(r"^(\w+) =([\d∷\s]*)\[\]$", text, re.M)}
+    """The definition's lists by name; one may hold another by its name."""
+    lists = {}
+    for name, items in re.findall(r"^(\w+Refusals) = (.*)$", re.sub(r"--.*", "", read(root, DEFINITION)), re.M):
+        lists[name] = [number for item in re.findall(r"\w+", items) for number in ([int(item)] if item.isdigit() else lists[item])]
+    return lists
 
 
 def functions(root):

@@ -4,7 +4,7 @@ use core::fmt;
 /// Why opening or a call was refused. The register and the answer slice are then as they were.
 ///
 /// Each has its number and a sentence. Checks go in this order, and the first fault is told; a call is read field by field,
-/// and of 23 to 29 that of the first field at fault. Opening gives 20 and 21 and a call 22 to 31: that the library returns no
+/// and of 23 to 29 the one that is met first is told. Opening gives 20 and 21 and a call 22 to 31: that the library returns no
 /// other number is proved (docs/NUMBERS.md), so a host that handles [`Refusal::ALL`] handles all.
 ///
 /// ```
