@@ -1,11 +1,11 @@
 -- Steps on two stations that are alike: one law for each step. Each says that both stations stay legal and alike, that a call is refused on
 -- both with the same number of the table, and that the active length moves by what is answered. For the laws of calls on twins (TwinSteps).
 use Prim.Native.Nat.{ℕ, zero, suc, _+_}
-use mathlib.Core.Path.{_≡_, refl, ap, ap₂, _∙_, subst}
+use mathlib.Core.Path.{_≡_, refl, ap, _∙_, subst}
 use mathlib.Core.List.{List, [], _∷_}
 use mathlib.Core.Option.{Option, none, some}
 use native.Mathlib.Omega.{arith}
-use lib.Dec.{leb, eqb, ltb}
+use lib.Dec.{eqb, ltb}
 use lib.ListN.{length}
 use borrow.Author.Tests.{leb-false}
 use Rattle.octets.specs.Bytes.{Bytes, same}
@@ -70,7 +70,7 @@ module _ {k : Likeness} (l : Lasting k) where
     raiseNew-like : {n : ℕ} (i : Bytes) → length i ≡ 16 → Related (On k n [] []) (Told k 0 n) (raiseAt c i none) (raiseAt (worded w d c) i none)
     unfolding raiseAt
     raiseNew-like i h =
-        test-related _ (λ s t p. ap₂ leb (p .limit) (length-each (k .Pair) (s .active) (t .active) (p .pairs)))
+        test-related _ (λ s t p. rw (p .limit, length-each (k .Pair) (s .active) (t .active) (p .pairs)))
         (look-related (λ s t (p, q). told (subst (λ (a : ℕ). k .Says (ActiveLimitExceeded i (s .limitA)) (ActiveLimitExceeded i a)) (p .limit) (l .saysSame _)) refl (omega arith) s t p))
         (pre-related (λ s t (p, q). (p, omega (arith, leb-false (s .limitA) (length (s .active)) q, p .size))) (storeNew-like i h))
 
