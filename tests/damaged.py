@@ -95,7 +95,7 @@ DAMAGES = {
         ("a number of the definition too many", NUMBERS, r"31 ∷ \[\]", "31 ∷ 32 ∷ []"),
         ("a number of the definition left out", NUMBERS, r"21 ∷ \[\]", "[]"),
         ("two numbers of the definition exchanged", NUMBERS, r"24 ∷ 25", "25 ∷ 24"),
-        ("a part of a list of the definition left out", NUMBERS, r"\(callRefusals \+\+ (.*)\)$", r"\1"),
+        ("a part of a list of the definition left out", NUMBERS, r"callRefusals \+\+ \((.*)\)$", r"\1"),
         ("a list of the definition left out", NUMBERS, r"^openingRefusals = .*\n", ""),
         ("a list of the definition too many", NUMBERS, r"\Z", "\nabbrev pub panelRefusals : List ℕ\npanelRefusals = 22 ∷ []\n"),
         ("a number of the header", HEADER, r"(ALARM_REFUSED_UTF8 +)27u", r"\g<1>26u"),

@@ -3,13 +3,14 @@
 use Prim.Native.Nat.{ℕ}
 use mathlib.Core.Path.{_≡_}
 use mathlib.Core.List.{List, [], _∷_, map}
+use lib.Dec.{T}
 use lib.ListN.{length, take, getD}
 use Rattle.octets.specs.Bytes.{Bytes, Octets, splice}
 use Rattle.definition.specs.Station.{fresh}
 use Rattle.definition.specs.Opening.{openOf}
-use Rattle.definition.specs.Sound.{encode}
+use Rattle.definition.specs.Sound.{encode, sound}
 use Rattle.definition.specs.Lists.{Reply, stepOf, run}
-use Rattle.definition.specs.Numbers.{openingRefusals, stepRefusals, Among}
+use Rattle.definition.specs.Numbers.{openingRefusals, soundRefusals, stepRefusals, Among}
 use Rattle.definition.specs.Mask.{maskRegister, maskAnswer}
 use Rattle.definition.specs.Twins.{AtEach, TwinLists}
 
@@ -98,3 +99,5 @@ pub record Numbers : Type 0 where
   pub opening : (a h e : ℕ) (slice : Bytes) → Among (openOf a h e slice .number) (0 ∷ openingRefusals)
   -- what slices hold is bytes
   pub step : (b call : Bytes) (n : ℕ) → Octets call → Among (stepOf b call n .number) (0 ∷ stepRefusals)
+  -- 22 is given on no sound register
+  pub on-sound : (b call : Bytes) (n : ℕ) → Octets call → T (sound b) → Among (stepOf b call n .number) (0 ∷ soundRefusals)

@@ -13,10 +13,14 @@ openingRefusals = 20 ∷ 21 ∷ []
 abbrev pub callRefusals : List ℕ
 callRefusals = 23 ∷ 24 ∷ 25 ∷ 26 ∷ 27 ∷ 28 ∷ 29 ∷ []
 
--- register: 22 "not sound"; the call's; answer: 30 "shorter than 1,552 .. or than the answer"; step: 31 "raise would store an id that is active".
+-- on a sound register: the call's; answer: 30 "shorter than 1,552 .. or than the answer"; step: 31 "raise would store an id that is active".
 -- M-107: "no call on any sound register gives 32, then remove it from code and table"
+abbrev pub soundRefusals : List ℕ
+soundRefusals = callRefusals ++ (30 ∷ 31 ∷ [])
+
+-- on any bytes: register: 22 "not sound", and these
 abbrev pub stepRefusals : List ℕ
-stepRefusals = 22 ∷ (callRefusals ++ (30 ∷ 31 ∷ []))
+stepRefusals = 22 ∷ soundRefusals
 
 abbrev pub among : ℕ → List ℕ → Bool
 among n [] = false

@@ -7,7 +7,7 @@ use mathlib.Core.Bool.{Bool, true, false, cond, _&&_}
 use lib.Dec.{T, eqb}
 use lib.ListN.{length}
 use Rattle.octets.specs.Bytes.{Bytes, Octets}
-use Rattle.octets.specs.BoolLaws.{either-right, holds, true-holds}
+use Rattle.octets.specs.BoolLaws.{either-right, either-on, holds, true-holds}
 use Rattle.definition.specs.Parse.{parseCall}
 use Rattle.definition.specs.Limits.{recordWidth}
 use Rattle.definition.specs.Book.{isLimit}
@@ -22,7 +22,7 @@ use Rattle.definition.specs.Sound.{encode, station, sound}
 use Rattle.definition.specs.Laws.Steps.SoundStation.{sound-holds, legal-sound}
 use Rattle.definition.specs.Opening.{opened, openOf}
 use Rattle.definition.specs.Lists.{replyOf, stepOf}
-use Rattle.definition.specs.Numbers.{openingRefusals, stepRefusals, among, Among}
+use Rattle.definition.specs.Numbers.{openingRefusals, soundRefusals, stepRefusals, among, Among}
 use Rattle.definition.specs.Claim.{Claim, Numbers}
 use Rattle.definition.specs.Laws.Twins.ClaimHolds.{claim}
 
@@ -58,20 +58,27 @@ open-listed a h e slice = go (isLimit a && (isLimit h && isLimit e)) (eqb (lengt
     go true false = tt
     go false y = tt
 
-reply-listed : (b : Bytes) (kind : Bool) (x : Outcome Answer) → Answered kind (station b) x → Among (replyOf b x .number) (0 ∷ stepRefusals)
+reply-listed : (b : Bytes) (kind : Bool) (x : Outcome Answer) → Answered kind (station b) x → Among (replyOf b x .number) (0 ∷ soundRefusals)
 reply-listed b kind (done a s) l = tt
-reply-listed b kind (stopped k) l = either-right (eqb k 0) (among k stepRefusals) l
+reply-listed b kind (stopped k) l = either-right (eqb k 0) (among k soundRefusals) l
+
+sound-listed : (b call : Bytes) (n : ℕ) → Octets call → T (sound b) → Among (stepOf b call n .number) (0 ∷ soundRefusals)
+unfolding stepOf
+sound-listed b call n o h = rw (holds (sound b) h) (reply-listed b _ (perform (parseCall call) n (station b)) (called b call n o h))
 
 step-listed : (b call : Bytes) (n : ℕ) → Octets call → Among (stepOf b call n .number) (0 ∷ stepRefusals)
 unfolding stepOf
 step-listed b call n o = go (sound b) refl
   where
+    widen : (k : ℕ) → Among k (0 ∷ soundRefusals) → Among k (0 ∷ stepRefusals)
+    widen k h = either-on (eqb k 0) (among k soundRefusals) (among k stepRefusals) (either-right (eqb k 22) (among k soundRefusals)) h
+
     go : (x : Bool) → sound b ≡ x → Among (stepOf b call n .number) (0 ∷ stepRefusals)
-    go true e = rw e (reply-listed b _ (perform (parseCall call) n (station b)) (called b call n o (true-holds (sound b) e)))
+    go true e = widen (stepOf b call n .number) (sound-listed b call n o (true-holds (sound b) e))
     go false e = rw e tt
 
 pub numbers : Numbers
-numbers = record { opening = open-listed; step = step-listed }
+numbers = record { opening = open-listed; step = step-listed; on-sound = sound-listed }
 
 -- ---- M-107: no call on a sound register takes from a free chain that has ended: with record z more behind it, a call does the same, and leaves
 -- ---- z there

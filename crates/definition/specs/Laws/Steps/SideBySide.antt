@@ -4,12 +4,12 @@ use Prim.Native.Nat.{ℕ}
 use mathlib.Core.Path.{_≡_, refl, subst}
 use mathlib.Core.Bool.{Bool, true, false, cond}
 use Rattle.definition.specs.Station.{Station, Outcome, done, stopped, Step, after, _>>=_, _>>_, give, refuse, look}
-use Rattle.definition.specs.Numbers.{stepRefusals, Among}
+use Rattle.definition.specs.Numbers.{soundRefusals, Among}
 use Rattle.definition.specs.Laws.Steps.LegalMoves.{Ends, ok}
 
 pub data Both {A B : Type 0} (Q : A → B → Station → Station → Type 0) : Outcome A → Outcome B → Type 0 where
   both : {a : A} {b : B} {s t : Station} → Q a b s t → Both Q (done a s) (done b t)
-  neither : {n : ℕ} → Among n stepRefusals → Both Q (stopped n) (stopped n)
+  neither : {n : ℕ} → Among n soundRefusals → Both Q (stopped n) (stopped n)
 
 pub record Related {A B : Type 0} (P : Station → Station → Type 0) (Q : A → B → Station → Station → Type 0) (m : Step A) (m′ : Step B) : Type 0 where
   pub from : (s t : Station) → P s t → Both Q (m s) (m′ t)
@@ -25,7 +25,7 @@ module _ {A B : Type 0} {P : Station → Station → Type 0} {Q : A → B → St
   pub look-related : {f : Station → A} {g : Station → B} → ((s t : Station) → P s t → Q (f s) (g t) s t) → Related P Q (look f) (look g)
   look-related h = record { from = λ s t p. both (h s t p) }
 
-  pub refuse-related : {n : ℕ} → Among n stepRefusals → Related P Q (refuse n) (refuse n)
+  pub refuse-related : {n : ℕ} → Among n soundRefusals → Related P Q (refuse n) (refuse n)
   refuse-related h = record { from = λ s t p. neither h }
 
   pub cond-related : (b : Bool) {m n : Step A} {m′ n′ : Step B} → Related P Q m m′ → Related P Q n n′ → Related P Q (cond b m n) (cond b m′ n′)

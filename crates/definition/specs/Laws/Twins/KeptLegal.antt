@@ -12,7 +12,7 @@ use Rattle.definition.specs.Alarm.{Alarm}
 use Rattle.definition.specs.Station.{Station, Outcome, done, stopped}
 use Rattle.definition.specs.Answer.{Answer}
 use Rattle.definition.specs.Perform.{perform}
-use Rattle.definition.specs.Numbers.{stepRefusals, Among}
+use Rattle.definition.specs.Numbers.{soundRefusals, Among}
 use Rattle.definition.specs.Contracts.LegalStation.{LegalStation}
 use Rattle.definition.specs.Laws.Steps.Answers.{said, lists, kindOf, listing}
 use Rattle.definition.specs.Contracts.LegalFields.{LegalCall}
@@ -66,7 +66,7 @@ module _ {n : ℕ} {s t : Station} (p : On twin n [] [] s t) where
 -- it is answered, and the station is legal and its active length has moved by what was answered; or refused, with a number of the table
 pub data Kept (k : ℕ) (s : Station) : Outcome Answer → Type 0 where
   answered : {x : Answer} {t : Station} → LegalStation t → said x .kind ≡ k → length (s .active) + said x .came ≡ length (t .active) + said x .went → Kept k s (done x t)
-  refused : {n : ℕ} → Among n stepRefusals → Kept k s (stopped n)
+  refused : {n : ℕ} → Among n soundRefusals → Kept k s (stopped n)
 
 pub perform-kept : (c : CallValue) (n : ℕ) (s : Station) → LegalCall c → LegalStation s → Kept (kindOf (opOf c)) s (perform c n s)
 perform-kept c n s h l = go (perform-twin n (alike c) h h .from s s (self-twin s l))
@@ -78,7 +78,7 @@ perform-kept c n s h l = go (perform-twin n (alike c) h h .from s s (self-twin s
 -- a legal station and an answer of its kind; or a refusal of the table
 abbrev pub Answered : Bool → Station → Outcome Answer → Type 0
 Answered b s (done x t) = LegalStation t × (lists x ≡ b)
-Answered b s (stopped n) = Among n stepRefusals
+Answered b s (stopped n) = Among n soundRefusals
 
 pub perform-legal : (c : CallValue) (n : ℕ) (s : Station) → LegalCall c → LegalStation s → Answered (listing c) s (perform c n s)
 perform-legal c n s h l = go (perform-kept c n s h l)
