@@ -50,10 +50,18 @@ pub record Made : Type 0 where
   pub answer : Bytes
   pub register : Bytes
 
+-- on the register b
+abbrev pub MadeOn : Bytes → Made → Type 0
+MadeOn b m = StepReturns b (m .call) (m .former) (m .number) (m .length) (m .answer) (m .register)
+
 -- calls one after the other, the first on the register b, each other on what the one before left
 abbrev pub Trace : Bytes → List Made → Type 0
 Trace b [] = Unit {0}
-Trace b (m ∷ l) = StepReturns b (m .call) (m .former) (m .number) (m .length) (m .answer) (m .register) × Trace (m .register) l
+Trace b (m ∷ l) = MadeOn b m × Trace (m .register) l
+
+-- the call's operation, its first byte
+abbrev pub operation : Made → ℕ
+operation m = getD (m .call) 0 0
 
 -- "A list fixes each call's bytes and answer length; the answer slice's former bytes are free."
 abbrev pub asked : Made → Bytes × ℕ
@@ -69,7 +77,7 @@ AsReplied m r = Gives r (m .former) (m .number) (m .length) (m .answer) (m .regi
 
 -- the answer, without the bytes past it, masked by its operation
 abbrev pub masked : Made → Bytes
-masked m = maskAnswer (getD (m .call) 0 0) (take (m .length) (m .answer))
+masked m = maskAnswer (operation m) (take (m .length) (m .answer))
 
 pub record Alike (m m′ : Made) : Type 0 where
   pub number : m .number ≡ m′ .number

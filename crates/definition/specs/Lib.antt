@@ -32,6 +32,7 @@ pub mod Lists
 pub mod Twins
 pub mod Mask
 pub mod Claim
+pub mod Balance
 -- the words of contracts inside the code
 pub mod Contracts
 -- what follows from it

@@ -1,5 +1,5 @@
--- Demand 3, on what the entry points promise; that a sound register stays sound; which numbers are given; and that no call takes from a free
--- chain that has ended.
+-- Demand 3 and the balance, on what the entry points promise; that a sound register stays sound; which numbers are given; and that no call takes
+-- from a free chain that has ended.
 use Prim.Native.Nat.{ℕ, _+_, _*_}
 use mathlib.Core.Path.{_≡_, refl}
 use mathlib.Core.List.{_∷_}
@@ -11,41 +11,35 @@ use Rattle.octets.specs.BoolLaws.{either-right, either-on, holds, true-holds}
 use Rattle.definition.specs.Parse.{parseCall}
 use Rattle.definition.specs.Limits.{recordWidth}
 use Rattle.definition.specs.Book.{isLimit}
-use Rattle.definition.specs.Station.{Station, Outcome, done, stopped, fresh}
+use Rattle.definition.specs.Station.{Station, Outcome, fresh}
 use Rattle.definition.specs.Answer.{Answer}
 use Rattle.definition.specs.Perform.{perform}
-use Rattle.definition.specs.Laws.Steps.Answers.{listing}
 use Rattle.definition.specs.Laws.Steps.Surplus.{surplus, surplusIn, NoStray, Leaves, legal-strays, surplus-left}
-use Rattle.definition.specs.Laws.Twins.KeptLegal.{Answered, perform-legal}
-use Rattle.definition.specs.Laws.Text.ParsedLegal.{call-legal}
+use Rattle.definition.specs.Laws.Twins.KeptLegal.{Kept, answered, refused, sound-kept, kept-sound}
 use Rattle.definition.specs.Sound.{encode, station, sound}
-use Rattle.definition.specs.Laws.Steps.SoundStation.{sound-holds, legal-sound}
 use Rattle.definition.specs.Opening.{opened, openOf}
 use Rattle.definition.specs.Lists.{replyOf, stepOf}
 use Rattle.definition.specs.Numbers.{openingRefusals, soundRefusals, stepRefusals, among, Among}
 use Rattle.definition.specs.Claim.{Claim, Numbers}
+use Rattle.definition.specs.Balance.{Balance}
 use Rattle.definition.specs.Laws.Twins.ClaimHolds.{claim}
+use Rattle.definition.specs.Laws.Twins.BalanceHolds.{balanced}
 
 -- from an opening that returned 0, for every list of calls, the refused ones included. `Claim` speaks of what is returned and left by
 -- `OpenReturns` and `StepReturns`: these are the contracts of `alarm_open` and `alarm_step`, and proofs/Promises.antt says so of the code
 pub whole-lists : Claim
 whole-lists = claim
 
--- a call on a sound register leaves a legal station, or is refused with a number of the table
-called : (b call : Bytes) (n : ℕ) → Octets call → T (sound b) → Answered (listing (parseCall call)) (station b) (perform (parseCall call) n (station b))
-called b call n o h = perform-legal (parseCall call) n (station b) (call-legal call o) (sound-holds b h .legal)
+-- M-111, "Nothing lost between lists": Raised = active + Cleared + expired. `Balance` speaks of the same promises
+pub balance : Balance
+balance = balanced
 
 -- ---- a sound register stays sound under every call
-
-reply-sound : (b : Bytes) (kind : Bool) (x : Outcome Answer) → T (sound b) → Answered kind (station b) x → T (sound (replyOf b x .register))
-reply-sound b kind (done a s) h l = legal-sound s (l .0)
-reply-sound b kind (stopped k) h l = h
 
 pub stays-sound : (b call : Bytes) (n : ℕ) → Octets call → T (sound b) → T (sound (stepOf b call n .register))
 unfolding stepOf
 stays-sound b call n o h =
-    rw (holds (sound b) h)
-    (reply-sound b _ (perform (parseCall call) n (station b)) h (called b call n o h))
+    rw (holds (sound b) h) (kept-sound b h (sound-kept b call n o h))
 
 -- ---- what an opening or a call gives, and by its contract an entry point returns, is 0 or a number of the table
 
@@ -58,13 +52,13 @@ open-listed a h e slice = go (isLimit a && (isLimit h && isLimit e)) (eqb (lengt
     go true false = tt
     go false y = tt
 
-reply-listed : (b : Bytes) (kind : Bool) (x : Outcome Answer) → Answered kind (station b) x → Among (replyOf b x .number) (0 ∷ soundRefusals)
-reply-listed b kind (done a s) l = tt
-reply-listed b kind (stopped k) l = either-right (eqb k 0) (among k soundRefusals) l
+reply-listed : {k : ℕ} (b : Bytes) {o : Outcome Answer} → Kept k (station b) o → Among (replyOf b o .number) (0 ∷ soundRefusals)
+reply-listed b (answered l k e) = tt
+reply-listed b (refused {n} a) = either-right (eqb n 0) (among n soundRefusals) a
 
 sound-listed : (b call : Bytes) (n : ℕ) → Octets call → T (sound b) → Among (stepOf b call n .number) (0 ∷ soundRefusals)
 unfolding stepOf
-sound-listed b call n o h = rw (holds (sound b) h) (reply-listed b _ (perform (parseCall call) n (station b)) (called b call n o h))
+sound-listed b call n o h = rw (holds (sound b) h) (reply-listed b (sound-kept b call n o h))
 
 step-listed : (b call : Bytes) (n : ℕ) → Octets call → Among (stepOf b call n .number) (0 ∷ stepRefusals)
 unfolding stepOf
@@ -83,11 +77,11 @@ numbers = record { opening = open-listed; step = step-listed; on-sound = sound-l
 -- ---- M-107: no call on a sound register takes from a free chain that has ended: with record z more behind it, a call does the same, and leaves
 -- ---- z there
 
-leaves-none : (kind : Bool) (s : Station) (x : Outcome Answer) → Answered kind s x → Leaves NoStray x
-leaves-none kind s (done a t) l = legal-strays t (l .0 .chains)
-leaves-none kind s (stopped k) l = tt
+leaves-none : {k : ℕ} {s : Station} {o : Outcome Answer} → Kept k s o → Leaves NoStray o
+leaves-none (answered {t = t} l k e) = legal-strays t (l .chains)
+leaves-none (refused a) = tt
 
 pub surplus-stays : (b call : Bytes) (n z : ℕ) → Octets call → T (sound b) →
     perform (parseCall call) n (surplus z (station b)) ≡ surplusIn z (perform (parseCall call) n (station b))
 surplus-stays b call n z o h =
-    surplus-left z (parseCall call) n (station b) (leaves-none _ (station b) (perform (parseCall call) n (station b)) (called b call n o h))
+    surplus-left z (parseCall call) n (station b) (leaves-none (sound-kept b call n o h))

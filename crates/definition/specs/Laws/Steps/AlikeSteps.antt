@@ -119,12 +119,17 @@ module _ {k : Likeness} (l : Lasting k) where
   abbrev Fewer : ℕ → ℕ → Station → Station → Type 0
   Fewer n m s t = On k (length (s .active)) [] [] s t × (length (s .active) + m ≡ n)
 
+  -- an alarm that is due goes off the active chain
+  retireDue-like : {n : ℕ} {e e′ : Entry Alarm} {d d′ : List (Entry Alarm)} (u : ℕ) → Time u → k .Pair e e′ → BothLegal 3 (e .content) (e′ .content) →
+      Related (On k (suc n) (e ∷ d) (e′ ∷ d′)) (Only (On k n d d′)) (retireDue u e) (retireDue u e′)
+  retireDue-like {e = e} {e′} u h q g = retire-like (l .expires u q) (expired-legal u (e .content) h (g .0), expired-legal u (e′ .content) h (g .1))
+
   retires-like : (u : ℕ) → Time u → {n : ℕ} (d d′ : List (Entry Alarm)) → Related (On k n d d′) (Only (Fewer n (length d))) (forEach d (retireDue u)) (forEach d′ (retireDue u))
   unfolding forEach
   retires-like u h [] [] = give-related (λ s t p. (settled p, omega (arith, p .size)))
   retires-like u h {n = suc n} (e ∷ d) (e′ ∷ d′) =
       known-related {F = k .Pair e e′ × BothLegal 3 (e .content) (e′ .content)} (λ s t p. (picked-each (k .Pair) {d = e ∷ d} {d′ = e′ ∷ d′} (p .picked) (p .pairs) .0, found-legal p))
-      (λ (q, g). then-related (retire-like (l .expires u q) (expired-legal u (e .content) h (g .0), expired-legal u (e′ .content) h (g .1))) (post-related (λ u v s t p. (p .0, omega (arith, p .1))) (retires-like u h {n = n} d d′)))
+      (λ (q, g). then-related (retireDue-like u h q g) (post-related (λ u v s t p. (p .0, omega (arith, p .1))) (retires-like u h {n = n} d d′)))
   retires-like u h {n = zero} (e ∷ d) (e′ ∷ d′) = never-related (λ s t p. omega (arith, p .size, length-without (e .index) (s .active) (picked-left (p .picked))))
   retires-like u h [] (e ∷ d) = never-related (λ s t p. picked-each (k .Pair) {d = []} {d′ = e ∷ d} (p .picked) (p .pairs))
   retires-like u h (e ∷ d) [] = never-related (λ s t p. picked-each (k .Pair) {d = e ∷ d} {d′ = []} (p .picked) (p .pairs))

@@ -10,7 +10,6 @@ use borrow.Author.Tests.{eqb-true}
 use lib.ListN.{length, length-append}
 use Rattle.octets.specs.Bytes.{be32, be64}
 use Rattle.octets.specs.NumberLaws.{length-digits}
-use Rattle.definition.specs.Value.{CallValue, opOf}
 use Rattle.definition.specs.Mask.{listsRecords}
 use Rattle.definition.specs.Alarm.{Alarm, Event}
 use Rattle.definition.specs.Laws.Record.Payloads.{length-alarm, length-event}
@@ -20,8 +19,25 @@ use Rattle.definition.specs.Laws.Twins.Blank.{blank}
 
 -- ---- what an answer says
 
--- how many alarms came onto the active chain, how many went off it, and of which kind the answer is: 8 where alarms are listed, as
--- operations 8 and 9 do, 7 for operation 7, and 0 else
+-- of which kind the answer is: 8 where alarms are listed, as operations 8 and 9 do, 7 for operation 7, and 0 else
+abbrev kind : Answer → ℕ
+kind (Raised a) = 0
+kind (Updated a) = 0
+kind (Cleared i) = 0
+kind (ClearWithoutActive k c) = 0
+kind (ActiveLimitExceeded k n) = 0
+kind (Suppressed a) = 0
+kind (Acknowledged a) = 0
+kind (Unauthorized m) = 0
+kind (AuditFailed m) = 0
+kind (NotFound i) = 0
+kind (Expired n) = 7
+kind (Alarms l) = 8
+kind (Counts l) = 0
+kind (Summary t) = 0
+kind (Events l) = 0
+
+-- how many alarms came onto the active chain and how many went off it, by the answer's head, and of which kind the answer is
 pub record Said : Type 0 where
   pub came : ℕ
   pub went : ℕ
@@ -31,21 +47,9 @@ abbrev pub tells : ℕ → ℕ → ℕ → Said
 tells c w k = record { came = c; went = w; kind = k }
 
 abbrev pub said : Answer → Said
-said (Raised a) = tells 1 0 0
-said (Updated a) = tells 0 0 0
-said (Cleared i) = tells 0 1 0
-said (ClearWithoutActive k c) = tells 0 0 0
-said (ActiveLimitExceeded k n) = tells 0 0 0
-said (Suppressed a) = tells 0 0 0
-said (Acknowledged a) = tells 0 0 0
-said (Unauthorized m) = tells 0 0 0
-said (AuditFailed m) = tells 0 0 0
-said (NotFound i) = tells 0 0 0
-said (Expired n) = tells 0 n 7
-said (Alarms l) = tells 0 0 8
-said (Counts l) = tells 0 0 0
-said (Summary t) = tells 0 0 0
-said (Events l) = tells 0 0 0
+said x =
+    let h = headOf x in
+    tells (cond (eqb (h .code) 1) 1 0) (cond (eqb (h .code) 3) 1 0 + cond (eqb (kind x) 7) (h .number) 0) (kind x)
 
 abbrev pub lists : Answer → Bool
 lists x = eqb (said x .kind) 8
@@ -53,9 +57,6 @@ lists x = eqb (said x .kind) 8
 -- the kind of an operation's answers
 abbrev pub kindOf : ℕ → ℕ
 kindOf op = cond (eqb op 7) 7 (cond (listsRecords op) 8 0)
-
-abbrev pub listing : CallValue → Bool
-listing c = eqb (kindOf (opOf c)) 8
 
 -- its answers list alarms for operations 8 and 9, and for no other
 pub lists-op : (op : ℕ) → eqb (kindOf op) 8 ≡ listsRecords op
@@ -68,6 +69,15 @@ lists-op op = go (eqb op 7) refl
     go : (b : Bool) → eqb op 7 ≡ b → eqb (cond b 7 (cond (listsRecords op) 8 0)) 8 ≡ listsRecords op
     go true p = rw (eqb-true op 7 p)
     go false p = other (listsRecords op)
+
+-- they are of operation 7's kind for it, and for no other
+pub expires-op : (op : ℕ) → eqb (kindOf op) 7 ≡ eqb op 7
+expires-op op = go (eqb op 7) (listsRecords op)
+  where
+    go : (a b : Bool) → eqb (cond a 7 (cond b 8 0)) 7 ≡ a
+    go true b = refl
+    go false true = refl
+    go false false = refl
 
 -- ---- without texts and details
 

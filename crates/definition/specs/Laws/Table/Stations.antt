@@ -16,9 +16,8 @@ use Rattle.definition.specs.Perform.{perform}
 use Rattle.definition.specs.Sound.{encode}
 use Rattle.definition.specs.Lists.{Reply, replyOf, run}
 use Rattle.definition.specs.Contracts.LegalStation.{LegalStation}
-use Rattle.definition.specs.Laws.Text.ParsedLegal.{call-legal}
 use Rattle.definition.specs.Laws.Steps.StationBook.{fresh-legalStation}
-use Rattle.definition.specs.Laws.Twins.KeptLegal.{Answered, perform-legal}
+use Rattle.definition.specs.Laws.Twins.KeptLegal.{Kept, answered, refused, call-kept}
 use Rattle.definition.specs.Laws.Twins.ClaimHolds.{step-legal}
 use Rattle.definition.specs.Laws.Table.Computed.{keyed, parsed, performed, written}
 use Rattle.definition.specs.Laws.Table.Shown.{register, ample, repliesTo, offsets}
@@ -46,9 +45,9 @@ abbrev pub stationAfter : Station → Outcome Answer → Station
 stationAfter s (done x t) = t
 stationAfter s (stopped n) = s
 
-legal-after : (b : Bool) {s : Station} (o : Outcome Answer) → LegalStation s → Answered b s o → LegalStation (stationAfter s o)
-legal-after b (done x t) l p = p .0
-legal-after b (stopped n) l p = l
+legal-after : {k : ℕ} {s : Station} {o : Outcome Answer} → LegalStation s → Kept k s o → LegalStation (stationAfter s o)
+legal-after l (answered m k e) = m
+legal-after l (refused k) = l
 
 register-after : (s : Station) (o : Outcome Answer) → replyOf (encode s) o .register ≡ encode (stationAfter s o)
 register-after s (done x t) = refl
@@ -65,9 +64,9 @@ unfolding run replies allOctets
 run-legal [] s h t = refl
 run-legal (p ∷ l) s h t =
     let o = perform (parseCall (p .0)) (p .1) s in
-    let c = call-legal (p .0) (octets (p .0) (both-left (areOctets (p .0)) (allOctets l) t)) in
+    let c = octets (p .0) (both-left (areOctets (p .0)) (allOctets l) t) in
     rw (step-legal (encode s) s (p .0) (p .1) h refl, register-after s o) (ap (_∷_ (replyOf (encode s) o))
-    (run-legal l (stationAfter s o) (legal-after _ o h (perform-legal (parseCall (p .0)) (p .1) s c h)) (both-right (areOctets (p .0)) (allOctets l) t)))
+    (run-legal l (stationAfter s o) (legal-after h (call-kept (p .0) (p .1) s c h)) (both-right (areOctets (p .0)) (allOctets l) t)))
 
 -- ---- the table's calls
 

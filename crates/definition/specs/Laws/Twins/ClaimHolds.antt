@@ -9,20 +9,18 @@ use lib.ListN.{length, take, getD}
 use lib.Seq.{take-at}
 use Rattle.octets.specs.Bytes.{Bytes, Octets, splice}
 use Rattle.octets.specs.BoolLaws.{holds, true-holds}
-use Rattle.definition.specs.Value.{CallValue}
 use Rattle.definition.specs.Parse.{parseCall}
-use Rattle.definition.specs.Station.{Station, Outcome, done, stopped, fresh, _>>=_}
+use Rattle.definition.specs.Station.{Station, Outcome, done, stopped, fresh}
 use Rattle.definition.specs.Answer.{Answer, answerBytes}
 use Rattle.definition.specs.Book.{isLimit}
 use Rattle.definition.specs.Laws.Book.BookTests.{limits-to}
 use Rattle.definition.specs.Opening.{opened, openOf}
-use Rattle.definition.specs.Perform.{inLength, perform}
-use Rattle.definition.specs.Laws.Steps.Answers.{lists, kindOf, listing, lists-op}
-use Rattle.definition.specs.Contracts.LegalFields.{LegalCall}
-use Rattle.definition.specs.Laws.Text.ParsedLegal.{Operation, called, refused, call-legal, call-operation}
+use Rattle.definition.specs.Perform.{perform}
+use Rattle.definition.specs.Laws.Steps.Answers.{lists, kindOf, lists-op}
+use Rattle.definition.specs.Laws.Text.ParsedLegal.{call-legal}
 use Rattle.definition.specs.Contracts.LegalStation.{LegalStation}
 use Rattle.definition.specs.Laws.Steps.StationBook.{fresh-legalStation}
-use Rattle.definition.specs.Laws.Twins.KeptLegal.{Answered, perform-legal, self-twin, twin-blank}
+use Rattle.definition.specs.Laws.Twins.KeptLegal.{self-twin, twin-blank, Kept, answered, refused, call-kept}
 use Rattle.definition.specs.Sound.{encode, sound}
 use Rattle.definition.specs.Laws.Steps.SoundStation.{legal-reads, legal-sound}
 use Rattle.definition.specs.Laws.Steps.Replies.{on-sound}
@@ -47,7 +45,7 @@ replied b (m ∷ l) t = (t .0, subst (λ (c : Bytes). AtEach AsReplied l (run (m
 
 -- ---- a fresh register is a legal station's
 
-opened-fresh : (a h e : ℕ) (b : Bytes) → Fresh a h e b → LegalStation (fresh a h e) × (b ≡ encode (fresh a h e))
+pub opened-fresh : (a h e : ℕ) (b : Bytes) → Fresh a h e b → LegalStation (fresh a h e) × (b ≡ encode (fresh a h e))
 unfolding openOf
 opened-fresh a h e b f =
     let o = f .opening in
@@ -68,14 +66,9 @@ abbrev Good : ℕ → Outcome Answer → Type 0
 Good op (done x t) = LegalStation t × (lists x ≡ listsRecords op)
 Good op (stopped n) = Unit {0}
 
-good : (op n : ℕ) (s : Station) {c : CallValue} → Operation op c → LegalCall c → LegalStation s → Good op (perform c n s)
-unfolding perform inLength _>>=_
-good op n s {c} (called k) h l = go (perform c n s) (perform-legal c n s h l)
-  where
-    go : (o : Outcome Answer) → Answered (listing c) s o → Good op o
-    go (done x t) p = (p .0, p .1 ∙ ap (λ (i : ℕ). eqb (kindOf i) 8) k ∙ lists-op op)
-    go (stopped m) p = tt
-good op n s refused h l = tt
+good : (op : ℕ) {s : Station} {o : Outcome Answer} → Kept (kindOf op) s o → Good op o
+good op (answered l k e) = (l, ap (λ (i : ℕ). eqb i 8) k ∙ lists-op op)
+good op (refused k) = tt
 
 -- the registers of two stations that differ in texts and details only
 record Twin (b b′ : Bytes) : Type 0 where
@@ -146,7 +139,7 @@ module _ (m m′ : Made) (q q′ : Reply) (g : Gives q (m .former) (m .number) (
 -- ---- twin lists, call by call
 
 good-call : (c : Bytes) (n : ℕ) (s : Station) → Octets c → LegalStation s → Good (getD c 0 0) (perform (parseCall c) n s)
-good-call c n s o l = good (getD c 0 0) n s (call-operation c o) (call-legal c o) l
+good-call c n s o l = good (getD c 0 0) (call-kept c n s o l)
 
 twin-step : (b b′ c c′ : Bytes) (n n′ : ℕ) → Twin b b′ → Octets c → Octets c′ → TwinCall c c′ → n ≡ n′ → TwinReply (getD c 0 0) (stepOf b c n) (stepOf b′ c′ n′)
 twin-step b b′ c c′ n n′ t o o′ w e =

@@ -1,28 +1,33 @@
--- Every call on a legal station leaves a legal station, or is refused with a number of the table; it is its own twin. For the claim, and for
--- `station`.
+-- Every call on a legal station leaves a legal station, or is refused with a number of the table; it is its own twin. So a sound register stays
+-- sound. For the claim, the balance, and `station`.
 use Prim.Native.Nat.{ℕ, _+_}
-use mathlib.Core.Path.{_≡_, refl, ap, ap₂}
+use mathlib.Core.Path.{_≡_, refl, ap₂, subst}
 use mathlib.Core.List.{List, [], _∷_, map}
-use mathlib.Core.Bool.{Bool}
-use lib.Dec.{eqb}
-use lib.ListN.{length}
+use lib.Dec.{T}
+use lib.ListN.{length, getD}
+use Rattle.octets.specs.Bytes.{Bytes, Octets}
 use Rattle.definition.specs.Value.{CallValue, opOf}
+use Rattle.definition.specs.Parse.{parseCall}
 use Rattle.definition.specs.Chain.{Entry}
 use Rattle.definition.specs.Alarm.{Alarm}
-use Rattle.definition.specs.Station.{Station, Outcome, done, stopped}
+use Rattle.definition.specs.Station.{Station, Outcome, done, stopped, _>>=_}
 use Rattle.definition.specs.Answer.{Answer}
-use Rattle.definition.specs.Perform.{perform}
+use Rattle.definition.specs.Perform.{inLength, perform}
+use Rattle.definition.specs.Sound.{station, sound}
+use Rattle.definition.specs.Lists.{replyOf}
 use Rattle.definition.specs.Numbers.{soundRefusals, Among}
 use Rattle.definition.specs.Contracts.LegalStation.{LegalStation}
-use Rattle.definition.specs.Laws.Steps.Answers.{said, lists, kindOf, listing}
+use Rattle.definition.specs.Laws.Steps.Answers.{said, kindOf}
 use Rattle.definition.specs.Contracts.LegalFields.{LegalCall}
+use Rattle.definition.specs.Laws.Text.ParsedLegal.{Operation, call-legal, call-operation}
 use Rattle.definition.specs.Laws.Twins.Blank.{blankEntry, blankStation}
 use Rattle.definition.specs.Twins.{AtEach}
+use Rattle.definition.specs.Laws.Steps.SoundStation.{sound-holds, legal-sound}
 use Rattle.definition.specs.Laws.Steps.PairedChains.{nothing}
 use Rattle.definition.specs.Laws.Steps.SideBySide.{Both, both, neither}
 use Rattle.definition.specs.Laws.Steps.Alike.{On, Told}
 use Rattle.definition.specs.Laws.Twins.TwinStations.{TwinAt, twin}
-use Rattle.definition.specs.Laws.Twins.TwinSteps.{alike, perform-twin}
+use Rattle.definition.specs.Laws.Twins.TwinSteps.{alike, call-listed, perform-twin}
 
 -- ---- a legal station is its own twin
 
@@ -75,14 +80,21 @@ perform-kept c n s h l = go (perform-twin n (alike c) h h .from s s (self-twin s
     go (both q) = answered (q .on .legal) (q .kind) (q .even)
     go (neither k) = refused k
 
--- a legal station and an answer of its kind; or a refusal of the table
-abbrev pub Answered : Bool → Station → Outcome Answer → Type 0
-Answered b s (done x t) = LegalStation t × (lists x ≡ b)
-Answered b s (stopped n) = Among n soundRefusals
-
-pub perform-legal : (c : CallValue) (n : ℕ) (s : Station) → LegalCall c → LegalStation s → Answered (listing c) s (perform c n s)
-perform-legal c n s h l = go (perform-kept c n s h l)
+-- a call of bytes: its answer is of the kind of the operation that its first byte names
+pub call-kept : (c : Bytes) (n : ℕ) (s : Station) → Octets c → LegalStation s → Kept (kindOf (getD c 0 0)) s (perform (parseCall c) n s)
+unfolding perform inLength _>>=_
+call-kept c n s o l = go (call-operation c o) (call-legal c o)
   where
-    go : {o : Outcome Answer} → Kept (kindOf (opOf c)) s o → Answered (listing c) s o
-    go (answered x k e) = (x, ap (λ (i : ℕ). eqb i 8) k)
-    go (refused k) = k
+    go : {op : ℕ} {v : CallValue} → Operation op v → LegalCall v → Kept (kindOf op) s (perform v n s)
+    go {v = v} (Operation.called k) h = subst (λ (i : ℕ). Kept (kindOf i) s (perform v n s)) k (perform-kept v n s h l)
+    go (Operation.refused {n = i}) h = refused (call-listed i h)
+
+-- ---- one call on a sound register
+
+pub sound-kept : (b call : Bytes) (n : ℕ) → Octets call → T (sound b) → Kept (kindOf (getD call 0 0)) (station b) (perform (parseCall call) n (station b))
+sound-kept b call n o h = call-kept call n (station b) o (sound-holds b h .legal)
+
+-- it stays sound
+pub kept-sound : {k : ℕ} (b : Bytes) {o : Outcome Answer} → T (sound b) → Kept k (station b) o → T (sound (replyOf b o .register))
+kept-sound b h (answered {t = t} l k e) = legal-sound t l
+kept-sound b h (refused k) = h

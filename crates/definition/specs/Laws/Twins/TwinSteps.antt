@@ -202,7 +202,7 @@ listed-before : (n : ℕ) (l r : List ℕ) → Among n l → Among n (l ++ r)
 listed-before n [] r h = absurd h
 listed-before n (k ∷ l) r h = either-on (eqb n k) (among n l) (among n (l ++ r)) (listed-before n l r) h
 
-call-listed : (n : ℕ) → Among n callRefusals → Among n soundRefusals
+pub call-listed : (n : ℕ) → Among n callRefusals → Among n soundRefusals
 call-listed n h = listed-before n callRefusals (drop (length callRefusals) soundRefusals) h
 
 step-twin : {n : ℕ} (c : CallValue) → LegalCall c → Related (Twin n) (Told twin (kindOf (opOf c)) n) (stepFor c) (stepFor c)
