@@ -1,4 +1,4 @@
--- The cases marked *, and that each number is given, proved by computation of the definition. Nothing cites them.
+-- The cases marked *, that each number is given, and the balance of the smallest lists, proved by computation of the definition. Nothing cites them.
 pub mod Calls
 pub mod Shown
 pub mod Computed
@@ -6,4 +6,5 @@ pub mod Stations
 pub mod Key
 pub mod Marked
 pub mod EachNumber
+pub mod YearlyBalance
 pub mod TwinRaises

@@ -28,7 +28,7 @@ unfoldable pub areOctets : Bytes → Bool
 areOctets [] = true
 areOctets (b ∷ s) = ltb b 256 && areOctets s
 
-octets : (s : Bytes) → T (areOctets s) → Octets s
+pub octets : (s : Bytes) → T (areOctets s) → Octets s
 unfolding areOctets
 octets [] h i = omega arith
 octets (b ∷ s) h zero = ltb→lt b 256 (both-left (ltb b 256) (areOctets s) h)

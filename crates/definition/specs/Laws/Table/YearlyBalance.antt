@@ -1,0 +1,64 @@
+-- M-111: the four figures of the smallest lists, by computation: what counts, and what does not. And the balance speaks of every list of calls that
+-- the definition runs.
+use Prim.Native.Nat.{ℕ}
+use mathlib.Core.Path.{_≡_, refl}
+use mathlib.Core.List.{List, [], _∷_}
+use lib.Dec.{T}
+use lib.ListN.{length, replicate, length-replicate}
+use Rattle.octets.specs.Bytes.{Bytes, splice}
+use Rattle.octets.specs.BoolLaws.{both-left, both-right}
+use Rattle.definition.specs.Lists.{Reply, stepOf, run}
+use Rattle.definition.specs.Claim.{Made}
+use Rattle.definition.specs.Balance.{raised, cleared, expired, Place, called, sum, activeLength, Course, lastLeft}
+use Rattle.definition.specs.Laws.Table.Calls.{raise, clear, expire}
+use Rattle.definition.specs.Laws.Table.Shown.{register, ample}
+use Rattle.definition.specs.Laws.Table.Stations.{areOctets, octets, allOctets, computed, by-stations-of}
+
+-- ---- calls as they are made, on answer slices of ones: what a refusal leaves there looks like an answer Raised
+
+abbrev madeOf : Bytes × ℕ → Reply → Made
+madeOf p r =
+    let o : Bytes = replicate (p .1) 1 in
+    record { call = p .0; former = o; number = r .number; length = r .length; answer = splice o 0 (r .answer); register = r .register }
+
+abbrev placesOf : List (Bytes × ℕ) → List Reply → List Place
+placesOf [] q = []
+placesOf (p ∷ l) [] = []
+placesOf (p ∷ l) (r ∷ q) = called (madeOf p r) ∷ placesOf l q
+
+-- ---- the four figures: "answers Raised = active length + answers Cleared + the sum of the numbers that expire calls gave"
+
+abbrev figuresIn : List (Bytes × ℕ) → List Reply → ℕ × ℕ × ℕ × ℕ
+figuresIn l q =
+    let c = placesOf l q in
+    (sum raised c, activeLength (lastLeft register c), sum cleared c, sum expired c)
+
+unfoldable pub figuresOf : List (Bytes × ℕ) → ℕ × ℕ × ℕ × ℕ
+figuresOf l = figuresIn l (run l register)
+
+pub record SmallestLists : Type 0 where
+  -- Updated is not Raised
+  pub updated : figuresOf (ample (raise 0 "a" "a") ∷ ample (raise 1 "a" "a") ∷ []) ≡ (1, 1, 0, 0)
+  -- the second clear finds nothing: code 4
+  pub cleared : figuresOf (ample (raise 0 "a" "a") ∷ ample (clear 1 "a") ∷ ample (clear 2 "a") ∷ []) ≡ (1, 0, 1, 0)
+  -- on a slice of 1,551 bytes an expiry is refused: 30
+  pub expired : figuresOf (ample (raise 0 "a" "a") ∷ (expire 1, 1551) ∷ ample (expire 1) ∷ []) ≡ (1, 0, 0, 1)
+
+computes : (l : List (Bytes × ℕ)) {x : ℕ × ℕ × ℕ × ℕ} → T (allOctets l) → figuresIn l (computed l) ≡ x → figuresOf l ≡ x
+unfolding figuresOf
+computes l = by-stations-of (figuresIn l) l
+
+pub smallest-lists : SmallestLists
+unfolding allOctets computed splice
+smallest-lists = record { updated = computes _ tt refl; cleared = computes _ tt refl; expired = computes _ tt refl }
+
+-- ---- every list that the definition runs is made of such calls, each on the register that the one before left
+
+pub run-course : (l : List (Bytes × ℕ)) (b : Bytes) → T (allOctets l) → Course b (placesOf l (run l b))
+unfolding run allOctets
+run-course [] b t = tt
+run-course (p ∷ l) b t = (
+  octets (p .0) (both-left (areOctets (p .0)) (allOctets l) t),
+  rw length-replicate (record { number-is = refl; length-is = refl; answer-is = refl; register-is = refl }),
+  run-course l (stepOf b (p .0) (p .1) .register) (both-right (areOctets (p .0)) (allOctets l) t),
+)
