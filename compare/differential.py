@@ -1,11 +1,13 @@
-"""A list of calls stepped by the model and, beside it, by the register and by the Rust: every byte must be the same."""
+"""A list of calls stepped by the model and, beside it, by the register and by the Rust: every byte is the same, and the list balances."""
 import collections
+import json
 import subprocess
 from typing import NamedTuple, Optional
 
 import imports  # noqa: F401  (finds the reading of calls, and the table of numbers)
 import model
 import numbering
+from balance import BY_RUST, Balance, RegisterBalance
 from orders import Counters, Given, Open, Step, results, written
 from original import Original
 from reading import line
@@ -99,19 +101,30 @@ class Register:
 
 
 class Rust:
-    """The lines of the oracle."""
+    """The lines of the oracle. The balance is of what these say, not of the register: the Rust's own answers and active list."""
 
-    def __init__(self, path, orders):
-        self.lines, self.original = iter(ran(path, orders).decode().split("\n")[:-1]), Original()
+    def __init__(self, path, orders, tally):
+        self.lines, self.tally = iter(ran(path, orders).decode().split("\n")[:-1]), tally
+        self.original = self.balance = None
 
     def difference(self, order, outcome):
         found = next(self.lines, "the oracle ended")
         if isinstance(order, Step):
-            return self.original.difference(order.call, outcome.number, outcome.answer[:outcome.length], outcome.register, found)
+            return self.step_difference(order.call, outcome, found)
         if isinstance(order, Open):
-            self.original = Original()
+            self.original, self.balance = Original(), Balance(0, self.tally, BY_RUST)
             return None if found == ("refused 20" if outcome.number else "opened") else found
         return None
+
+    def step_difference(self, call, outcome, found):
+        if not found.startswith("{"):
+            return None if found == f"refused {outcome.number}" else f"the Rust: {found}; here: number {outcome.number}"
+        said = json.loads(found)
+        self.balance.count(call[0], said["code"], said["number"])
+        fault = self.balance.fault(len(said["state"]["active"]))
+        if fault:
+            return f"the Rust: {fault}"
+        return self.original.difference(call, outcome.number, outcome.answer[:outcome.length], outcome.register, said)
 
 
 def unequal(found, wanted):
@@ -127,14 +140,15 @@ def for_the_rust(orders):
     return all(model.open(bytearray(order.size), *order.limits) != 21 for order in orders if isinstance(order, Open))
 
 
-def outcomes(orders, tools):
-    """The model's outcomes, each found equal by the programs that are there."""
-    beside = [Register(tools.driver, orders)] if tools.driver else []
+def outcomes(orders, tools, tally):
+    """The model's outcomes, each found equal by the programs that are there; so the balance of its bytes is the register's too."""
+    checks = [Register(tools.driver, orders).difference] if tools.driver else []
     if tools.oracle and for_the_rust(orders):
-        beside.append(Rust(tools.oracle, orders))
+        checks.append(Rust(tools.oracle, orders, tally).difference)
+    checks.append(RegisterBalance(tally).fault)
     for place, (order, outcome) in enumerate(zip(orders, modelled(orders))):
-        for other in beside:
-            fault = other.difference(order, outcome)
+        for check in checks:
+            fault = check(order, outcome)
             if fault:
                 raise Difference(place, fault)
         yield outcome
@@ -203,7 +217,7 @@ def result_name(order, outcome):
 def counted(orders, tools, tally):
     """The outcomes, each counted by its name."""
     by_rust = bool(tools.oracle) and for_the_rust(orders)
-    for order, outcome in zip(orders, outcomes(orders, tools)):
+    for order, outcome in zip(orders, outcomes(orders, tools, tally)):
         if isinstance(order, Step):
             tally["calls"] += 1
             tally["calls that the Rust made"] += by_rust

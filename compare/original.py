@@ -5,7 +5,6 @@ one call expired, and where the limit cut it, the run compares by count and memb
 """
 import functools
 import itertools
-import json
 
 from records import alarm_of, event_of, number, unlinked
 from soundness import Unsound, walked
@@ -106,11 +105,8 @@ class Original:
             }
         return self.shown
 
-    def difference(self, call, refusal, answer, register, line):
-        """What differs after a call, as text; None where nothing does."""
-        if not line.startswith("{"):
-            return None if line == f"refused {refusal}" else f"the Rust: {line}; here: number {refusal}"
-        theirs = json.loads(line)
+    def difference(self, call, refusal, answer, register, theirs):
+        """What differs after a call that the Rust answers, as text; None where nothing does."""
         state = theirs.pop("state")
         cut = self.cut(call, state)
         if refusal:

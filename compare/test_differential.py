@@ -1,5 +1,5 @@
 #!/usr/bin/env python3
-"""Whether the comparison notices: the model in the register's place, with and without faults, and twins that are none."""
+"""Whether the comparison notices: the model in the register's place, with and without faults, twins that are none, a balance that fails."""
 import collections
 import os
 import pathlib
@@ -10,6 +10,7 @@ import sys
 import imports  # noqa: F401  (finds the list of checks)
 import generate
 import standin
+import test_balance
 from calls import call
 from checklist import run
 from differential import Case, Tools, checked, fault_of, masked_register, modelled, report, shrunk
@@ -87,6 +88,7 @@ CHECKS = {
     "programs that end": ended,
     "twins": twins,
     "the mask": mask,
+    **test_balance.CHECKS,
 }
 
 if __name__ == "__main__":
