@@ -10,11 +10,12 @@ import subprocess
 import sys
 import tempfile
 
+import recounts
 from checklist import HERE, Skip, run
-from program import DAY, MONTH, STATION, WORK, cargo, ends, ready, saved, station, too_wide, with_program, without_library, works
+from program import DAY, MONTH, PAGE_WIDTH, STATION, WORK, cargo, ends, ready, saved, station, too_wide, with_program, without_library, works
 
 COMMANDS = ("write", "read", "replay", "recount", "twin", "check")
-HELP_WIDTH, PAGE_WIDTH = 83, 99
+HELP_WIDTH = 83
 
 
 def builds(_root):
@@ -160,40 +161,6 @@ def steered(_root):
             yield f"{rows[0]['text']!r} is not the text"
 
 
-def recounted(_root):
-    """A report is equal, or each difference stands in a row and the status is 1."""
-    shutil.copy(MONTH, HERE / "target/desk/month.calls")
-    out = works("recount", "target/desk/month.calls", "--against", "examples/second-case/report.csv", status=1).decode()
-    if out != (HERE / "examples/second-case/recount").read_text(encoding="utf-8"):
-        yield "examples/second-case/recount is not what `station recount` prints"
-    if b"Equal: the 38 figures of examples/day.csv" not in works("recount", DAY, "--against", "examples/day.csv"):
-        yield "the day's report is not equal to its calls"
-    true = works("recount", MONTH, "--csv").decode()
-    if b"Equal: the 25 figures" not in works("recount", MONTH, "--against", saved("true.csv", true)):
-        yield "a list's own figures are not equal to it"
-    works("recount", MONTH, "--against", saved("semicolons.csv", true.replace(",", ";")))
-    spoilt = json.loads(works("recount", MONTH, "--against", saved("spoilt.csv", true.replace("cleared,7", "cleared,8")), "--json", status=1))
-    if spoilt["differing"] != 1 or [row["difference"] for row in spoilt["figures"] if row["difference"]] != ["+1"]:
-        yield f"one changed figure gives {spoilt}"
-    part = saved("part.csv", "figure,value\ncalls,3344\n")
-    works("recount", MONTH, "--against", part, "--partial")
-    works("recount", MONTH, "--against", part, status=1)
-    yield from ends(2, "--partial needs --against", "recount", MONTH, "--partial")
-
-
-def report_faults(_root):
-    """A report that is none is told with its line."""
-    reports = [
-        (b"", "the file is empty"), (b"\xff\xfe", "line 1: this is not text"), (b"a,b\n", "line 1: a report begins with"),
-        (b"figure,value\ncals,1\n", "line 2: there is no figure `cals`"), (b"figure,value\ncalls\n", "line 2: two fields are needed"),
-        (b"figure,value\ncalls,1\n\ncalls,1\n", "line 4: the figure `calls` is given twice"),
-        (b'figure,value\n"calls,1\n', "line 2: a quote is not closed"), (MONTH.read_bytes(), "this is not text"),
-    ]
-    for data, said in reports:
-        yield from ends(3, said, "recount", MONTH, "--against", saved("report.csv", data))
-    yield from ends(4, "there is no such file", "recount", MONTH, "--against", WORK / "nowhere.csv")
-
-
 def twins(_root):
     """Other texts and details change nothing else."""
     for calls, raises in ((DAY, 13), (MONTH, 3335)):
@@ -278,8 +245,7 @@ USES = {
     "the page, JSON and CSV": page,
     "pages are narrow enough": narrow,
     "texts do not steer": steered,
-    "reports are recounted": recounted,
-    "faults of reports": report_faults,
+    **recounts.CHECKS,
     "twins are the same": twins,
     "registers are checked": checked,
     "closed pipes and full disks": closed,

@@ -10,6 +10,7 @@ from checklist import HERE, Skip
 STATION = HERE / "rust/target/release/station"
 WORK = pathlib.Path(tempfile.mkdtemp(prefix="desk"))
 DAY, MONTH = WORK / "day.calls", WORK / "month.calls"
+PAGE_WIDTH = 99
 
 
 def linkable():
@@ -57,6 +58,14 @@ def works(*words, given=None, status=0):
     got, out, err = station(*words, given=given)
     if got != status or err:
         raise ValueError(f"{' '.join(map(str, words))}: status {got}: {err.strip()}")
+    return out
+
+
+def tells(status, said, *words, given=None):
+    """What a run prints that should end with this status, and say this one sentence beside it."""
+    got, out, err = station(*words, given=given)
+    if got != status or err != f"station: {said}\n":
+        raise ValueError(f"{' '.join(map(str, words))}: status {got}, not {status}: {err.strip()!r}, not {said!r}")
     return out
 
 

@@ -8,6 +8,7 @@
 //!
 //! Start with [`Register`]. Operations are [`Raise`], [`Clear`], [`PlainAction`], [`PolicyAction`], [`Expire`],
 //! [`ListActive`], [`ListHistory`], [`CountActive`], [`Summarise`] and [`TakeAudit`]; each says what it is answered by.
+//! [`Balance`] adds up answers, and says whether what was raised is active, cleared or expired.
 //!
 //! ```
 //! use alarm_register::{Limits, ListActive, Object, Raise, Register, Severity, Time};
@@ -31,6 +32,7 @@
 #![deny(unsafe_code, missing_docs)]
 
 mod answer;
+mod balance;
 mod bytes;
 mod call;
 mod entry;
@@ -45,6 +47,7 @@ mod time;
 mod values;
 
 pub use answer::{code_name, ActionAnswer, ClearAnswer, Head, RaiseAnswer};
+pub use balance::Balance;
 pub use bytes::{CallBytes, CALL_ROOM};
 pub use call::{Clear, PlainAction, PolicyAction, Raise};
 pub use layout::{ANSWER_ROOM, HEAD_WIDTH, RECORD_WIDTH};

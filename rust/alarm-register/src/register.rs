@@ -94,9 +94,19 @@ impl<'a> Register<'a> {
 
     /// The limits that the header gives; of any meaning only where the register is sound.
     pub fn limits(&self) -> Option<Limits> {
-        let number = |at: usize| self.bytes.get(at..at + 4)?.try_into().ok().map(u32::from_be_bytes);
-        let [active, history, audit] = header::LIMITS;
-        Some(Limits { active: number(active)?, history: number(history)?, audit: number(audit)? })
+        let [active, history, audit] = header::LIMITS.map(|at| self.number(at));
+        Some(Limits { active: active?, history: history?, audit: audit? })
+    }
+
+    /// How many alarms are active, as the header gives it; of any meaning only where the register is sound.
+    pub fn active_length(&self) -> Option<u32> {
+        let [active_head, ..] = header::HEADS;
+        self.number(active_head + 4)
+    }
+
+    /// A number of the header.
+    fn number(&self, at: usize) -> Option<u32> {
+        self.bytes.get(at..at + 4)?.try_into().ok().map(u32::from_be_bytes)
     }
 
     /// Performs an operation, with the slice as room for the answer.

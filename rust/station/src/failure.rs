@@ -1,11 +1,11 @@
 //! Why a command ends early, and with which exit status.
 use std::fmt;
-use std::io;
+use std::io::{self, Write};
 use std::path::Path;
 
 /// Everything went well.
 pub const FINE: u8 = 0;
-/// The figures differ, the twins differ, or the register is not sound.
+/// The figures differ, a balance does not hold, the twins differ, or the register is not sound.
 pub const FOUND: u8 = 1;
 
 /// A command that cannot be carried out; each has one sentence for people.
@@ -44,6 +44,12 @@ impl Failure {
             kind => Failure::System(format!("cannot {verb} {}: {}", named(file), reason(kind, error))),
         }
     }
+}
+
+/// Says a sentence on standard error.
+pub fn tell(said: &str) {
+    // where standard error is closed too, the status alone tells
+    let _ = writeln!(io::stderr(), "station: {said}");
 }
 
 /// How a file is named to people: `-` is standard input.

@@ -16,9 +16,9 @@ pub fn of(machine: &Machine, tally: &Tally) -> Result<Vec<Figure>, Refusal> {
     }
     for code in 1..=10 {
         let name = code_name(code).unwrap_or_default();
-        add(name.to_string(), tally.codes.get(&code).map_or(0, |often| often.calls).to_string());
+        add(name.to_string(), tally.answers(code).to_string());
     }
-    add("expired".to_string(), tally.expired.to_string());
+    add("expired".to_string(), tally.balance.expired.to_string());
     at_end(machine, &mut add)?;
     for raises in &tally.causes {
         add(format!("alarms {}", raises.cause), raises.alarms.to_string());

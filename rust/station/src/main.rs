@@ -1,4 +1,5 @@
 //! `station`: lists of calls to a station alarm register, for the desk.
+mod balance;
 mod check;
 mod examine;
 mod failure;
@@ -19,7 +20,7 @@ mod twin;
 
 use failure::{Failure, FINE};
 use options::Options;
-use std::io::{IsTerminal, Write};
+use std::io::IsTerminal;
 use std::process::ExitCode;
 
 const HELP: &str = "\
@@ -42,7 +43,8 @@ A file named - is standard input. `station --version` prints the version.
 
 Exit status:
   0  fine; also where the reader stops early, as in `station read LIST | head`
-  1  figures differ, twins differ, or the register is not sound
+  1  figures differ, a report does not balance, twins differ, or the register is
+     not sound
   2  the command line is not understood
   3  a file does not hold what it should
   4  a file cannot be read or written
@@ -146,8 +148,7 @@ fn main() -> ExitCode {
     let words: Vec<String> = std::env::args_os().skip(1).map(|word| word.to_string_lossy().into_owned()).collect();
     let status = run(&words).unwrap_or_else(|failure| {
         if let Failure::Usage(said) | Failure::Input(said) | Failure::System(said) = &failure {
-            // where standard error is closed too, the status alone tells
-            let _ = writeln!(std::io::stderr(), "station: {said}");
+            failure::tell(said);
         }
         failure.status()
     });

@@ -1,5 +1,6 @@
 //! `station recount`: a report's figures beside those of the raw calls.
-use crate::failure::{named, Failure, FINE, FOUND};
+use crate::balance::{Balances, FourFigures};
+use crate::failure::{named, tell, Failure, FINE, FOUND};
 use crate::figures::{self, Figure};
 use crate::files;
 use crate::options::{usage, Form, Options};
@@ -34,51 +35,76 @@ and has a figure on each line:
 A figure that REPORT leaves out counts as 0 (or none, or no impact): what is left
 out shows as a difference where the raw calls say otherwise.
 
-  --partial   figures that REPORT leaves out are not compared
-  --json      all figures as a JSON object
+A page ends with the balance: raised = active at end + cleared + expired. That the
+register keeps it is proved for every list of calls. With --against the last line
+is the balance of REPORT; where it does not hold, standard error says so too, in
+every form. Numbers of up to 38 digits are balanced.
+
+  --partial   figures that REPORT leaves out are not compared, and it balances or
+              not only where it has all four of raised, active at end, cleared
+              and expired
+  --json      all figures and the balance as a JSON object
   --csv       all figures as CSV
 
-Exit status: 0 equal, 1 at least one figure differs, 2 the command line is not
-understood, 3 LIST or REPORT is not in its form, 4 a file cannot be read or
-written.
+Exit status: 0 equal, 1 at least one figure differs or the report does not
+balance, 2 the command line is not understood, 3 LIST or REPORT is not in its
+form, 4 a file cannot be read or written.
 ";
 
 pub fn command(options: &Options) -> Result<u8, Failure> {
     let list = files::list(&options.file)?;
-    let (machine, tally) = replay::run(&list).map_err(|fault| Failure::input(&options.file, fault))?;
+    let (mut machine, tally) = replay::run(&list).map_err(|fault| Failure::input(&options.file, fault))?;
     let counted = figures::of(&machine, &tally).map_err(|refusal| Failure::input(&options.file, refusal))?;
+    let raw_calls = FourFigures::counted(&tally.balance, machine.active_length());
     let Some(against) = &options.against else {
         if options.partial {
             return Err(usage("recount", "--partial needs --against"));
         }
-        return alone(&counted, options.form);
+        return alone(&counted, &Balances { raw_calls, report: None }, options.form);
     };
     let reported = figures::report(&files::text(against)?, &counted).map_err(|fault| Failure::input(against, fault))?;
+    let report = Some(FourFigures::reported(named(against), &reported, options.partial));
+    let balances = Balances { raw_calls, report };
     let rows = beside(&counted, &reported, options.partial);
     let differing = rows.iter().filter(|row| !row.equal).count();
     let table = table(&named(against), &rows);
     let verdict = verdict(&named(against), rows.len(), differing);
     let shown = match options.form {
-        Form::Page => format!("{}\n{verdict}\n", table.ruled()),
+        Form::Page => format!("{}\n{verdict}\n{}", table.ruled(), balances.lines()),
         Form::Csv => table.csv(),
         Form::Json => json_object(&[
             ("equal", (differing == 0).to_string()),
             ("differing", differing.to_string()),
             ("figures", table.json()),
+            ("balance", balances.json()),
         ]),
     };
-    files::print(shown.as_bytes())?;
-    Ok(if differing == 0 { FINE } else { FOUND })
+    show(&shown, &balances, differing == 0)
 }
 
-fn alone(counted: &[Figure], form: Form) -> Result<u8, Failure> {
+fn alone(counted: &[Figure], balances: &Balances, form: Form) -> Result<u8, Failure> {
     let table = figures::table(counted);
     let shown = match form {
-        Form::Page => table.ruled(),
+        Form::Page => format!("{}\n{}", table.ruled(), balances.lines()),
         Form::Csv => table.csv(),
-        Form::Json => json_object(&[("figures", table.json())]),
+        Form::Json => json_object(&[("figures", table.json()), ("balance", balances.json())]),
     };
-    files::print(shown.as_bytes()).map(|()| FINE)
+    show(&shown, balances, true)
+}
+
+/// Prints, and says aloud where a balance does not hold, even if nobody reads what is printed.
+fn show(shown: &str, balances: &Balances, equal: bool) -> Result<u8, Failure> {
+    let printed = files::print(shown.as_bytes());
+    balances.fault().iter().for_each(|fault| tell(fault));
+    printed.map(|()| status(balances, equal))
+}
+
+fn status(balances: &Balances, equal: bool) -> u8 {
+    if equal && balances.fault().is_none() {
+        FINE
+    } else {
+        FOUND
+    }
 }
 
 /// A figure of the raw calls beside the report's.
@@ -116,10 +142,11 @@ fn table(against: &str, rows: &[Row]) -> Table {
     let cells = |row: &Row| {
         let reported = row.reported.as_deref().unwrap_or("left out");
         let (raw, report) = (row.counted.parse::<i128>(), row.reported.as_deref().unwrap_or(absent(&row.name)).parse::<i128>());
-        let difference = match (row.equal, raw, report) {
-            (true, _, _) => String::new(),
-            (false, Ok(raw), Ok(report)) => format!("{:+}", report - raw),
-            _ => "differs".to_string(),
+        let more = raw.ok().zip(report.ok()).and_then(|(raw, report)| report.checked_sub(raw));
+        let difference = match more {
+            _ if row.equal => String::new(),
+            Some(more) => format!("{more:+}"),
+            None => "differs".to_string(),
         };
         vec![Cell::of(&row.name), Cell::of(&row.counted), Cell::of(reported), Cell::of(difference)]
     };
@@ -136,5 +163,19 @@ fn verdict(against: &str, figures: usize, differing: usize) -> String {
         0 => format!("Equal: the {figures} figures of {against} are those of the raw calls."),
         1 => format!("1 of {figures} figures differs from the raw calls."),
         _ => format!("{differing} of {figures} figures differ from the raw calls."),
+    }
+}
+
+#[cfg(test)]
+mod tests {
+    use super::{status, Balances, FourFigures, FINE, FOUND};
+    use alarm_register::Balance;
+
+    #[test]
+    fn raw_calls_that_do_not_balance_have_their_status_without_a_report() {
+        let sums = Balance { raised: 11, cleared: 7, expired: 0 };
+        let balances = |active| Balances { raw_calls: FourFigures::counted(&sums, active), report: None };
+        assert_eq!((status(&balances(4), true), status(&balances(4), false)), (FINE, FOUND));
+        assert_eq!((status(&balances(3), true), status(&balances(3), false)), (FOUND, FOUND));
     }
 }

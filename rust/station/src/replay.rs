@@ -1,7 +1,7 @@
 //! Lists of calls, run from a fresh register.
 use crate::list::List;
 use crate::progress::Progress;
-use alarm_register::{AuditEvents, CallBytes, Head, Operation, Refusal, Register, TakeAudit};
+use alarm_register::{AuditEvents, Balance, CallBytes, Head, Operation, Refusal, Register, TakeAudit};
 use std::collections::BTreeMap;
 
 /// A register of its own, with room for every answer.
@@ -25,6 +25,11 @@ impl Machine {
     /// The register's bytes.
     pub fn register(&self) -> &[u8] {
         &self.register
+    }
+
+    /// How many alarms are active.
+    pub fn active_length(&mut self) -> u32 {
+        Register::over(&mut self.register).active_length().unwrap_or_default()
     }
 
     /// Performs a call of the list.
@@ -79,8 +84,8 @@ pub struct Tally {
     pub refused: BTreeMap<u32, Often>,
     /// Answers, by code.
     pub codes: BTreeMap<u8, Often>,
-    /// Alarms expired by all calls together.
-    pub expired: u64,
+    /// Alarms raised, cleared and expired by all calls together.
+    pub balance: Balance,
     /// Raises by cause, in the order in which causes first appear.
     pub causes: Vec<Raises>,
     /// The records of audit events that calls took out, each with the place of its call.
@@ -97,12 +102,22 @@ impl Tally {
         }
     }
 
+    /// How many calls were answered with a code. Raised and cleared are the balance's own, so that figures and balance are one
+    /// count.
+    pub fn answers(&self, code: u8) -> u128 {
+        match code {
+            1 => self.balance.raised,
+            3 => self.balance.cleared,
+            code => self.codes.get(&code).map_or(0, |often| often.calls.into()),
+        }
+    }
+
     fn answered(&mut self, call: &[u8], answer: &[u8]) {
         let Some((head, body)) = Head::read(answer) else { return };
         self.codes.entry(head.code).or_default().add(self.calls);
+        self.balance.add(call, answer);
         match call.first() {
             Some(1) if head.code <= 2 => self.raised(head.code == 1, body),
-            Some(7) => self.expired += head.number,
             Some(12) => self.taken.extend(records(answer).map(|record| (self.calls, record.to_vec()))),
             _ => {}
         }

@@ -1,7 +1,7 @@
 //! Tables with rules, as a page of a book.
 
 /// The most characters of a line, where the columns can be made that narrow.
-const PAGE_WIDTH: usize = 99;
+pub const PAGE_WIDTH: usize = 99;
 /// A column is narrowed to this where nothing else makes a row fit; names are then broken anywhere.
 const NARROWEST: usize = 12;
 /// Signs behind which a name is broken.
@@ -104,7 +104,7 @@ fn fitted(lines: Vec<String>, width: usize) -> Vec<String> {
 }
 
 /// A line in lines of a width, broken at a blank or behind a sign where there is one.
-fn wrapped(line: &str, width: usize) -> Vec<String> {
+pub fn wrapped(line: &str, width: usize) -> Vec<String> {
     let mut lines = Vec::new();
     let mut left: Vec<char> = line.chars().collect();
     while left.len() > width {
