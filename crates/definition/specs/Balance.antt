@@ -11,7 +11,7 @@ use Rattle.definition.specs.Claim.{Fresh, Made, MadeOn, operation}
 
 -- ---- what a call counts, read from its answer's bytes. All else counts nothing: refusals, other codes, other operations' numbers
 
--- it returned 0; its answer begins with a "head of 16: code, three zeros, u32 item count, u64 number"
+-- it returned 0; its answer begins with the "Head of 16: code, three zeros, u32 item count, u64 number"
 abbrev pub isAnswered : Made → Bool
 isAnswered m = eqb (m .number) 0
 
@@ -47,7 +47,7 @@ sum f (carried b ∷ l) = sum f l
 abbrev pub activeLength : Bytes → ℕ
 activeLength b = at32 b 16
 
--- a carry-over from b into b′, which is sound and has b's active length
+-- what the balance asks of a carry-over from b into b′: b′ is sound and has b's active length
 abbrev pub CarriedOn : Bytes → Bytes → Type 0
 CarriedOn b b′ = T (sound b′) × (activeLength b′ ≡ activeLength b)
 

@@ -1,5 +1,5 @@
--- What the contracts of the entry points tell a caller is what the claim on whole lists speaks of (`whole-lists`, specs/Theorem.antt): `told`
--- is the contract as the checker read it from the code, so that a weaker one is refused here.
+-- What the contracts of the entry points tell a caller is what the theorems on lists speak of (`whole-lists` and `balance`, specs/Theorem.antt):
+-- `told` is the contract as the checker read it from the code, so that a weaker one is refused here.
 use contract.Lifetimes.{Lfts}
 use borrow.Fn.World.{ArgsD, ResD}
 use borrow.Fn.Kinds.{endedOf}

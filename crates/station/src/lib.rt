@@ -2,8 +2,8 @@
 //
 // Each is thin: it checks the register (22 comes first, `onSound` in the definition), hands its bytes to a plain function of another crate and
 // tells the host what came of it (`reply::tell`). No entry point has a `requires`: number, length and every byte of every slice are fixed by equation
-// for every input, and these equations stand in the definition (Claim.antt), as what the claim on whole lists speaks of: specs/Theorem.antt has the
-// claim's proof, proofs/Promises.antt that the contracts here say just that. A new entry point is a crate of its own below this one, and a function here.
+// for every input, and these equations stand in the definition (Claim.antt), as what the theorems on lists of calls speak of: specs/Theorem.antt has
+// these, proofs/Promises.antt that the contracts here say just that. A new entry point is a crate of its own below this one, and a function here.
 // Next: crates/operations, which does the calls.
 ghost use Rattle.definition.specs.Claim.{OpenReturns, StepReturns};
 ghost use Rattle.reply.specs.Meaning.{numberIn, lengthIn};

@@ -70,7 +70,7 @@ lists-op op = go (eqb op 7) refl
     go true p = rw (eqb-true op 7 p)
     go false p = other (listsRecords op)
 
--- they are of operation 7's kind for it, and for no other
+-- its answers are of kind 7 for operation 7, and for no other
 pub expires-op : (op : ℕ) → eqb (kindOf op) 7 ≡ eqb op 7
 expires-op op = go (eqb op 7) (listsRecords op)
   where

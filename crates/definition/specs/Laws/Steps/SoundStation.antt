@@ -1,5 +1,5 @@
--- Sound bytes hold a legal station and are its bytes; a legal station's bytes are sound and hold it. For all code on a sound register, and for
--- the claim.
+-- Sound bytes hold a legal station and are its bytes; a legal station's bytes are sound and hold it. For all code on a sound register, for
+-- the claim and the balance.
 use Prim.Native.Nat.{ℕ}
 use mathlib.Core.Path.{_≡_, refl, sym, ap, ap₂, _∙_, subst}
 use mathlib.Core.List.{List, [], _∷_, map}

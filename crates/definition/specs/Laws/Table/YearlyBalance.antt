@@ -7,10 +7,11 @@ use lib.Dec.{T}
 use lib.ListN.{length, replicate, length-replicate}
 use Rattle.octets.specs.Bytes.{Bytes, splice}
 use Rattle.octets.specs.BoolLaws.{both-left, both-right}
+use Rattle.definition.specs.Reports.{summary}
 use Rattle.definition.specs.Lists.{Reply, stepOf, run}
 use Rattle.definition.specs.Claim.{Made}
 use Rattle.definition.specs.Balance.{raised, cleared, expired, Place, called, sum, activeLength, Course, lastLeft}
-use Rattle.definition.specs.Laws.Table.Calls.{raise, clear, expire}
+use Rattle.definition.specs.Laws.Table.Calls.{byte, raise, clear, expire}
 use Rattle.definition.specs.Laws.Table.Shown.{register, ample}
 use Rattle.definition.specs.Laws.Table.Stations.{areOctets, octets, allOctets, computed, by-stations-of}
 
@@ -39,6 +40,10 @@ figuresOf l = figuresIn l (run l register)
 pub record SmallestLists : Type 0 where
   -- Updated is not Raised
   pub updated : figuresOf (ample (raise 0 "a" "a") ∷ ample (raise 1 "a" "a") ∷ []) ≡ (1, 1, 0, 0)
+  -- at the limit of two a third key is not Raised, and code 5 gives that limit as its number
+  pub exceeded : figuresOf (ample (raise 0 "a" "a") ∷ ample (raise 0 "b" "b") ∷ ample (raise 0 "c" "c") ∷ []) ≡ (2, 2, 0, 0)
+  -- operation 11 gives the active length as its number
+  pub summed : figuresOf (ample (raise 0 "a" "a") ∷ ample (byte 11) ∷ []) ≡ (1, 1, 0, 0)
   -- the second clear finds nothing: code 4
   pub cleared : figuresOf (ample (raise 0 "a" "a") ∷ ample (clear 1 "a") ∷ ample (clear 2 "a") ∷ []) ≡ (1, 0, 1, 0)
   -- on a slice of 1,551 bytes an expiry is refused: 30
@@ -49,8 +54,15 @@ unfolding figuresOf
 computes l = by-stations-of (figuresIn l) l
 
 pub smallest-lists : SmallestLists
-unfolding allOctets computed splice
-smallest-lists = record { updated = computes _ tt refl; cleared = computes _ tt refl; expired = computes _ tt refl }
+unfolding allOctets computed splice summary
+smallest-lists =
+    record {
+      updated = computes _ tt refl;
+      exceeded = computes _ tt refl;
+      summed = computes _ tt refl;
+      cleared = computes _ tt refl;
+      expired = computes _ tt refl;
+    }
 
 -- ---- every list that the definition runs is made of such calls, each on the register that the one before left
 
