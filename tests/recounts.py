@@ -27,6 +27,8 @@ def recounted(_root):
     spoilt = json.loads(works("recount", MONTH, "--against", saved("spoilt.csv", true.replace("updated,3324", "updated,3325")), "--json", status=1))
     if spoilt["differing"] != 1 or [row["difference"] for row in spoilt["figures"] if row["difference"]] != ["+1"]:
         yield f"one changed figure gives {spoilt}"
+    if "\ncalls,3344,03344,differs\n" not in works("recount", MONTH, "--against", "-", "--csv", given=true.replace(",3344", ",03344"), status=1).decode():
+        yield "a number that is written otherwise differs by +0"
     part = saved("part.csv", "figure,value\ncalls,3344\n")
     works("recount", MONTH, "--against", part, "--partial")
     works("recount", MONTH, "--against", part, status=1)
@@ -135,8 +137,8 @@ def unbalanced(_root):
     words = [STATION, "recount", DAY, "--against", "-"]
     done = subprocess.run(words, input=spoilt("raised", 9).encode(), stdout=output, stderr=subprocess.PIPE)
     os.close(output)
-    if done.stderr.decode() != f"station: standard input does not balance: {sentences['raised']}\n":
-        yield f"where nobody reads the page standard error says {done.stderr!r}"
+    if done.returncode != 1 or done.stderr.decode() != f"station: standard input does not balance: {sentences['raised']}\n":
+        yield f"where nobody reads the page the status is {done.returncode}, and standard error says {done.stderr!r}"
 
 
 def left_out(_root):
@@ -150,12 +152,12 @@ def left_out(_root):
     whole = json.loads(works(*words, "--partial", "--json", given=part))
     if whole["balance"]["report"] != entry(None, 2, None, None, None):
         yield f"a part's JSON has {whole['balance']}"
-    said = "standard input does not balance: raised 0, but active at end 2 + cleared 0 + expired 0 = 2"
+    said = "standard input does not balance: raised 0 (left out), but active at end 2 + cleared 0 (left out) + expired 0 (left out) = 2"
     whole = json.loads(tells(1, said, *words, "--json", given=part))
     if whole["balance"]["report"] != entry(0, 2, 0, 0, False):
         yield f"what is left out is not 0: {whole['balance']}"
     page = works(*words, given=report({"calls": 29}), status=1).decode()
-    if not page.endswith(f"\nBalance of standard input: {equation(0, 0, 0, 0)}\n"):
+    if " ".join(page.splitlines()[-2:]) != f"Balance of standard input: {equation(*['0 (left out)'] * 4)}":
         yield f"a report without the four figures ends with {page[-200:]}"
 
 

@@ -27,8 +27,8 @@ use crate::answer::Head;
 ///     balance.add(call.as_bytes(), register.step(call.as_bytes(), &mut answer)?);
 /// }
 /// assert_eq!(balance, Balance { raised: 2, cleared: 0, expired: 1 });
-/// assert_eq!(register.active_length(), Some(1));
-/// assert!(balance.holds(0, 1));
+/// let active = register.active_length().unwrap_or_default();
+/// assert!(balance.holds(0, active.into()));
 /// # Ok::<(), alarm_register::Refusal>(())
 /// ```
 #[derive(Clone, Copy, Debug, Default, PartialEq, Eq)]
@@ -54,7 +54,7 @@ impl Balance {
     }
 
     /// Whether the balance holds between two active lengths: before the first call that was added, which is 0 for a fresh
-    /// register, and now, behind the last one. [`Register::active_length`](crate::Register::active_length) gives both.
+    /// register, and now, behind the last one. [`Register::active_length`](crate::Register::active_length) reads both.
     pub fn holds(&self, active_before: u128, active_now: u128) -> bool {
         sum(&[active_before, self.raised]) == sum(&[active_now, self.cleared, self.expired])
     }

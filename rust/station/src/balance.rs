@@ -18,6 +18,8 @@ enum Given {
     Number(u128),
     /// What is no number that can be added up, and why.
     NoNumber(String, &'static str),
+    /// Nothing, which is taken for 0.
+    Zero,
     /// Nothing, and that is not to be taken for 0.
     LeftOut,
 }
@@ -32,10 +34,19 @@ impl Given {
         }
     }
 
+    fn number(&self) -> Option<u128> {
+        match self {
+            Given::Number(number) => Some(*number),
+            Given::Zero => Some(0),
+            Given::NoNumber(..) | Given::LeftOut => None,
+        }
+    }
+
     fn said(&self) -> String {
         match self {
             Given::Number(number) => number.to_string(),
             Given::NoNumber(value, why) => format!("\"{}\" ({why})", quoted_for_page(value)),
+            Given::Zero => "0 (left out)".to_string(),
             Given::LeftOut => "left out".to_string(),
         }
     }
@@ -44,6 +55,7 @@ impl Given {
         match self {
             Given::Number(number) => number.to_string(),
             Given::NoNumber(value, _) => json_string(value),
+            Given::Zero => "0".to_string(),
             Given::LeftOut => "null".to_string(),
         }
     }
@@ -65,18 +77,14 @@ impl FourFigures {
 
     /// Those of a report. What it leaves out is 0, or not claimed where only a part is reported.
     pub fn reported(whose: String, report: &[Figure], partial: bool) -> FourFigures {
-        let absent = if partial { Given::LeftOut } else { Given::Number(0) };
+        let absent = if partial { Given::LeftOut } else { Given::Zero };
         let given = |name| report.iter().find(|(figure, _)| figure == name).map(|(_, value)| Given::read(value));
         FourFigures { whose, given: NAMES.map(|name| given(name).unwrap_or(absent.clone())) }
     }
 
     fn numbers(&self) -> Option<[u128; 4]> {
-        match self.given {
-            [Given::Number(raised), Given::Number(active), Given::Number(cleared), Given::Number(expired)] => {
-                Some([raised, active, cleared, expired])
-            }
-            _ => None,
-        }
+        let [raised, active, cleared, expired] = self.given.each_ref().map(Given::number);
+        Some([raised?, active?, cleared?, expired?])
     }
 
     /// Whether they balance; `None` where not all of them are given.
@@ -115,7 +123,8 @@ impl FourFigures {
         if head.chars().count() + 1 + said.chars().count() <= PAGE_WIDTH {
             return format!("{head} {said}\n");
         }
-        format!("{head}\n{}\n", wrapped(&said, PAGE_WIDTH).join("\n"))
+        let lines = [head, said].map(|part| wrapped(&part, PAGE_WIDTH).join("\n"));
+        lines.join("\n") + "\n"
     }
 
     fn json(&self) -> String {
@@ -197,7 +206,7 @@ mod tests {
     #[test]
     fn reports_balance_or_the_sum_is_told() {
         let equal = beside(["11", "4", "7", "left out"], false);
-        assert_eq!(last_line(&equal), "Balance of r.csv: raised 11 = active at end 4 + cleared 7 + expired 0.");
+        assert_eq!(last_line(&equal), "Balance of r.csv: raised 11 = active at end 4 + cleared 7 + expired 0 (left out).");
         assert_eq!(equal.fault(), None);
         let broken = beside(["12", "4", "007", "0"], false);
         assert_eq!(last_line(&broken), "NO BALANCE in r.csv: raised 12, but active at end 4 + cleared 7 + expired 0 = 11.");

@@ -43,7 +43,7 @@ A file named - is standard input. `station --version` prints the version.
 
 Exit status:
   0  fine; also where the reader stops early, as in `station read LIST | head`
-  1  figures differ, a report does not balance, twins differ, or the register is
+  1  figures differ, a balance does not hold, twins differ, or the register is
      not sound
   2  the command line is not understood
   3  a file does not hold what it should

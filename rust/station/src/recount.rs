@@ -36,9 +36,10 @@ A figure that REPORT leaves out counts as 0 (or none, or no impact): what is lef
 out shows as a difference where the raw calls say otherwise.
 
 A page ends with the balance: raised = active at end + cleared + expired. That the
-register keeps it is proved for every list of calls. With --against the last line
-is the balance of REPORT; where it does not hold, standard error says so too, in
-every form. Numbers of up to 38 digits are balanced.
+register keeps it is proved for every list of calls from a fresh register. With
+--against the last line is the balance of REPORT; where it does not hold, standard
+error says so too, in every form: a report that begins with alarms which are active
+already does not balance. Numbers of up to 38 digits are balanced.
 
   --partial   figures that REPORT leaves out are not compared, and it balances or
               not only where it has all four of raised, active at end, cleared
@@ -46,9 +47,9 @@ every form. Numbers of up to 38 digits are balanced.
   --json      all figures and the balance as a JSON object
   --csv       all figures as CSV
 
-Exit status: 0 equal, 1 at least one figure differs or the report does not
-balance, 2 the command line is not understood, 3 LIST or REPORT is not in its
-form, 4 a file cannot be read or written.
+Exit status: 0 equal, 1 at least one figure differs or a balance does not hold,
+2 the command line is not understood, 3 LIST or REPORT is not in its form, 4 a file
+cannot be read or written.
 ";
 
 pub fn command(options: &Options) -> Result<u8, Failure> {
@@ -95,8 +96,12 @@ fn alone(counted: &[Figure], balances: &Balances, form: Form) -> Result<u8, Fail
 /// Prints, and says aloud where a balance does not hold, even if nobody reads what is printed.
 fn show(shown: &str, balances: &Balances, equal: bool) -> Result<u8, Failure> {
     let printed = files::print(shown.as_bytes());
-    balances.fault().iter().for_each(|fault| tell(fault));
-    printed.map(|()| status(balances, equal))
+    let fault = balances.fault();
+    fault.iter().for_each(|fault| tell(fault));
+    match printed {
+        Err(Failure::Closed) if fault.is_some() => Ok(FOUND),
+        printed => printed.map(|()| status(balances, equal)),
+    }
 }
 
 fn status(balances: &Balances, equal: bool) -> u8 {
@@ -142,7 +147,7 @@ fn table(against: &str, rows: &[Row]) -> Table {
     let cells = |row: &Row| {
         let reported = row.reported.as_deref().unwrap_or("left out");
         let (raw, report) = (row.counted.parse::<i128>(), row.reported.as_deref().unwrap_or(absent(&row.name)).parse::<i128>());
-        let more = raw.ok().zip(report.ok()).and_then(|(raw, report)| report.checked_sub(raw));
+        let more = raw.ok().zip(report.ok()).and_then(|(raw, report)| report.checked_sub(raw)).filter(|more| *more != 0);
         let difference = match more {
             _ if row.equal => String::new(),
             Some(more) => format!("{more:+}"),
