@@ -141,7 +141,7 @@ def for_the_rust(orders):
 
 
 def outcomes(orders, tools, tally):
-    """The model's outcomes, each found equal by the programs that are there; so the balance of its bytes is the register's too."""
+    """The model's outcomes, each found equal by the programs that are there: where the register is one, their balance is its own."""
     checks = [Register(tools.driver, orders).difference] if tools.driver else []
     if tools.oracle and for_the_rust(orders):
         checks.append(Rust(tools.oracle, orders, tally).difference)
