@@ -50,7 +50,7 @@ pub record Made : Type 0 where
   pub answer : Bytes
   pub register : Bytes
 
--- on the register b
+-- the call m was made on the register b
 abbrev pub MadeOn : Bytes → Made → Type 0
 MadeOn b m = StepReturns b (m .call) (m .former) (m .number) (m .length) (m .answer) (m .register)
 
