@@ -1,4 +1,6 @@
-"""The balance of a list of calls: M-111 of document 02, written from its words, document 01's answers and docs/layout.json alone.
+"""The balance of a list of calls: M-111 of document 02, over document 01's answers and docs/layout.json, and not from the definition.
+
+What is counted is read as docs/DECISIONS.md, 2.2, reads it: a wrong reading there would be one here too.
 
 After every call from a fresh register: answers Raised = active length + answers Cleared + the sum of the numbers that expire calls gave.
 From another sound register its active length is added on the left. Refused calls count nothing. Python's numbers do not wrap.
