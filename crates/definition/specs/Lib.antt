@@ -33,6 +33,7 @@ pub mod Twins
 pub mod Mask
 pub mod Claim
 pub mod Balance
+pub mod Reach
 -- the words of contracts inside the code
 pub mod Contracts
 -- what follows from it

@@ -1,4 +1,4 @@
--- Demand 3 and the balance, on what the entry points promise; that a sound register stays sound; which numbers are given; and that no call takes
+-- Demand 3, the balance and the reach of one wrong severity, on what the entry points promise; that a sound register stays sound; which numbers are given; and that no call takes
 -- from a free chain that has ended.
 use Prim.Native.Nat.{ℕ, _+_, _*_}
 use mathlib.Core.Path.{_≡_, refl}
@@ -22,8 +22,10 @@ use Rattle.definition.specs.Lists.{replyOf, stepOf}
 use Rattle.definition.specs.Numbers.{openingRefusals, soundRefusals, stepRefusals, among, Among}
 use Rattle.definition.specs.Claim.{Claim, Numbers}
 use Rattle.definition.specs.Balance.{Balance}
+use Rattle.definition.specs.Reach.{Reach}
 use Rattle.definition.specs.Laws.Twins.ClaimHolds.{claim}
 use Rattle.definition.specs.Laws.Twins.BalanceHolds.{balanced}
+use Rattle.definition.specs.Laws.Twins.ReachHolds.{reached}
 
 -- from an opening that returned 0, for every list of calls, the refused ones included. `Claim` speaks of what is returned and left by
 -- `OpenReturns` and `StepReturns`: these are the contracts of `alarm_open` and `alarm_step`, and proofs/Promises.antt says so of the code
@@ -33,6 +35,11 @@ whole-lists = claim
 -- M-111, "Nothing lost between lists": Raised = active + Cleared + expired. `Balance` speaks of the same promises
 pub balance : Balance
 balance = balanced
+
+-- M-113, "How far one wrong severity reaches": equal active lengths, and counts of each severity that differ by one at most. `Reach` speaks of
+-- the same promises
+pub reach : Reach
+reach = reached
 
 -- ---- a sound register stays sound under every call
 

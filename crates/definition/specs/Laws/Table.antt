@@ -6,5 +6,7 @@ pub mod Stations
 pub mod Key
 pub mod Marked
 pub mod EachNumber
+pub mod RunMade
 pub mod YearlyBalance
+pub mod WrongSeverity
 pub mod TwinRaises

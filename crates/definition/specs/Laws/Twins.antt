@@ -1,4 +1,4 @@
--- Twins stay twins, legal stations stay legal, and demand 3 and the balance hold.
+-- Twins stay twins, legal stations stay legal, stations that are near stay so; demand 3, the balance and the reach hold.
 pub mod Blank
 pub mod KeptLegal
 pub mod TwinStations
@@ -7,4 +7,8 @@ pub mod MaskAnswer
 pub mod ReadTwins
 pub mod ClaimHolds
 pub mod BalanceHolds
+pub mod NearStations
+pub mod NearSteps
+pub mod ReadApart
+pub mod ReachHolds
 pub mod TwinSteps

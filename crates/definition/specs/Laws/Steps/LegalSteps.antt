@@ -2,18 +2,20 @@
 -- of `expiry`, which retires alarms, and for M-107.
 use Prim.Native.Nat.{ℕ, _≤_, _<_}
 use mathlib.Core.Path.{_≡_, refl, _∙_}
+use mathlib.Core.List.{List, [], _∷_}
 use mathlib.Core.Bool.{Bool, true, false, cond}
 use mathlib.Core.Option.{Option, none, some}
 use lib.Dec.{leb}
 use lib.ListN.{length}
 use borrow.Author.Tests.{leb-true, leb-false}
 use Rattle.definition.specs.Chain.{Entry, newest, without, times}
-use Rattle.definition.specs.Alarm.{Alarm, sameIdentity}
-use Rattle.definition.specs.Station.{Station, Outcome, done, Step, _>>=_, give, activeFull, auditFull, freeOldestHistory}
+use Rattle.definition.specs.Alarm.{Alarm, Event, sameIdentity}
+use Rattle.definition.specs.Station.{Station, Outcome, done, Step, _>>=_, give, forEach, activeFull, auditFull, freeOldestHistory}
 use Rattle.definition.specs.Steps.{makeRoom, extendHistory, historyAfter, intoHistory, retire}
+use Rattle.definition.specs.Reports.{freeOne}
 use Rattle.definition.specs.Contracts.LegalFields.{LegalAlarm}
 use Rattle.definition.specs.Contracts.LegalStation.{LegalStation}
-use Rattle.definition.specs.Laws.Steps.LegalMoves.{Ends, ok, ends-after, ends-weaken, Aside, Free, active-free, history-free, audit-free, addHistory-legal, freeActive-legal, freeOldestHistory-legal, changeHistory-legal}
+use Rattle.definition.specs.Laws.Steps.LegalMoves.{Ends, ok, ends-after, ends-weaken, Aside, Free, active-free, history-free, audit-free, addHistory-legal, freeActive-legal, freeOldestHistory-legal, freeOldestAudit-legal, changeHistory-legal}
 
 cond-ends : {A : Type 0} {Q : A → Station → Type 0} {s : Station} (b : Bool) (m n : Step A) → Ends Q (m s) → Ends Q (n s) → Ends Q (cond b m n s)
 cond-ends true m n p q = p
@@ -47,6 +49,12 @@ module _ (s : Station) (l : LegalStation s) where
   pub intoHistory-legal : (a : Alarm) → LegalAlarm 5 a → Ends (λ u t. Aside s t) (intoHistory a s)
   unfolding intoHistory _>>=_
   intoHistory-legal a p = historyAfter-legal a p (newest (s .history))
+
+-- operation 12 frees audit records one by one
+pub frees-legal : (d : List (Entry Event)) (s : Station) → LegalStation s → Ends (λ u t. Aside s t) (forEach d freeOne s)
+unfolding forEach _>>=_
+frees-legal [] s l = ok (record { legal = l; same = refl; limit = refl })
+frees-legal (e ∷ d) s l = ends-after _ (freeOldestAudit-legal s l) (λ u t p. then-aside p (frees-legal d t (p .legal)))
 
 -- ---- a step on the active chain
 

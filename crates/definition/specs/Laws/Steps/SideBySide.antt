@@ -52,6 +52,11 @@ module _ {A B : Type 0} {P : Station → Station → Type 0} {Q : A → B → St
   pub never-related : {m : Step A} {m′ : Step B} → ((s t : Station) → P s t → ⊥) → Related P Q m m′
   never-related h = record { from = λ s t p. absurd (h s t p) }
 
+-- two steps that both end, each by itself
+pub both-ends : {A B : Type 0} {F : A → Station → Type 0} {G : B → Station → Type 0} {Q : A → B → Station → Station → Type 0} {o : Outcome A} {o′ : Outcome B} →
+    Ends F o → Ends G o′ → ((a : A) (b : B) (s t : Station) → F a s → G b t → Q a b s t) → Both Q o o′
+both-ends (ok {a} {t = s} f) (ok {a = b} {t} g) h = both (h a b s t f g)
+
 -- what holds of the stations, if both are done
 abbrev pub Match : {A B : Type 0} → (Station → Station → Type 0) → Outcome A → Outcome B → Type 0
 Match R (done a s) (done b t) = R s t

@@ -1,5 +1,5 @@
 -- The bytes of the table's calls, field by field as "The call enters" lists them: "operation byte, then fields in order, nothing after".
--- For the rows of Marked, for EachNumber and YearlyBalance, and for the twins in TwinRaises.
+-- For the rows of Marked, for EachNumber, YearlyBalance and WrongSeverity, and for the twins in TwinRaises.
 use Prim.Native.Nat.{ℕ}
 use Prim.Native.String.{String}
 use mathlib.Core.List.{[], _∷_, _++_}
@@ -32,10 +32,17 @@ tenant a = 6 ∷ sent a
 
 -- ---- "1 raise: time, id, type, severity, cause, object, tenant?, slice?, region?, text, details?"
 
--- those before the text: type `t`, severity 3, no slice, no region
+-- those before the severity: type `t`
+abbrev pub sentBeforeSeverity : ℕ → String → Bytes
+sentBeforeSeverity time id = join (be64 time ∷ sent id ∷ sent "t" ∷ [])
+
+-- those between it and the text: no slice, no region
+abbrev sentAbout : String → Bytes → Bytes → Bytes
+sentAbout cause object tenant? = join (sent cause ∷ object ∷ tenant? ∷ absent ∷ absent ∷ [])
+
+-- those before the text, with severity 3
 abbrev pub sentBeforeText : ℕ → String → String → Bytes → Bytes → Bytes
-sentBeforeText time id cause object tenant? =
-    join (be64 time ∷ sent id ∷ sent "t" ∷ byte 3 ∷ sent cause ∷ object ∷ tenant? ∷ absent ∷ absent ∷ [])
+sentBeforeText time id cause object tenant? = sentBeforeSeverity time id ++ (3 ∷ sentAbout cause object tenant?)
 
 -- no text, no details
 abbrev pub raiseOf : ℕ → String → String → Bytes → Bytes → Bytes
@@ -44,6 +51,14 @@ raiseOf time id cause object tenant? = 1 ∷ (sentBeforeText time id cause objec
 -- lease-lost on a tenant object
 abbrev pub raise : ℕ → String → String → Bytes
 raise time id object = raiseOf time id "lease-lost" (tenant object) absent
+
+-- the same, those behind the severity: lease-lost on the tenant object `a`
+abbrev pub sentBehindSeverity : Bytes
+sentBehindSeverity = sentAbout "lease-lost" (tenant "a") absent ++ (sent "" ++ absent)
+
+-- at time 0, with the id `a`, and another severity
+abbrev pub raiseRated : ℕ → Bytes
+raiseRated severity = 1 ∷ (sentBeforeSeverity 0 "a" ++ (severity ∷ sentBehindSeverity))
 
 -- ---- "2 clear: time, type, cause, object, tenant?, slice?, region?": what `raise` raised
 abbrev pub clear : ℕ → String → Bytes
@@ -54,11 +69,17 @@ clear time object =
 abbrev pub acknowledge : String → ℕ → Bytes
 acknowledge id authorised = join (byte 3 ∷ be64 0 ∷ sent id ∷ byte authorised ∷ [])
 
--- ---- "5 .. with policy: time, id, principal, tenant?, reason, scope, correlation?, critical-allowed (0 or 1), authorised (0 or 1), denial
--- ---- message": principal `p`, no reason, scope 2, "global", denial `no`
+-- ---- "5, 6 the same with policy: time, id, principal, tenant?, reason, scope, correlation?, critical-allowed (0 or 1), authorised (0 or 1),
+-- ---- denial message": principal `p`, no reason, scope 2, "global", critical-allowed 0, denial `no`
+abbrev byPolicy : ℕ → ℕ → String → ℕ → Bytes
+byPolicy op time id authorised =
+    join (byte op ∷ be64 time ∷ sent id ∷ sent "p" ∷ absent ∷ sent "" ∷ byte 2 ∷ absent ∷ byte 0 ∷ byte authorised ∷ sent "no" ∷ [])
+
 abbrev pub acknowledgeByPolicy : String → ℕ → Bytes
-acknowledgeByPolicy id authorised =
-    join (byte 5 ∷ be64 0 ∷ sent id ∷ sent "p" ∷ absent ∷ sent "" ∷ byte 2 ∷ absent ∷ byte 0 ∷ byte authorised ∷ sent "no" ∷ [])
+acknowledgeByPolicy id authorised = byPolicy 5 0 id authorised
+
+abbrev pub suppressByPolicy : ℕ → String → ℕ → Bytes
+suppressByPolicy time id authorised = byPolicy 6 time id authorised
 
 -- ---- "7 expire: cutoff time"
 abbrev pub expire : ℕ → Bytes

@@ -13,7 +13,7 @@ use Rattle.definition.specs.Reader as Reader
 use Rattle.definition.specs.Reader.{into, bytes, number, choice, blob, text, optional, causeText}
 use Rattle.definition.specs.Parse.{pair, objectOf, object, scopeOf, scope, raiseHead, places, key, raiseBody, raiseFields, clearFields, plainFields, actor, request, verdict, policyFields, fieldsOf, parseCall}
 use Rattle.definition.specs.Chain.{those, first, newest, without, replaced, firstOf}
-use Rattle.definition.specs.Alarm.{before, late, sameNames, sameKey, sameIdentity}
+use Rattle.definition.specs.Alarm.{before, late, sameNames, sameKey, sameIdentity, isCritical}
 use Rattle.definition.specs.Slot.{join}
 use Rattle.definition.specs.Record.{alarmBytes, eventBytes}
 use Rattle.definition.specs.Book.{recordIn, be32s, header, recordAt, bookBytes}
@@ -35,7 +35,7 @@ parsed c = parseCall c
 
 -- a step and its answer's bytes; keys, and operations 8 to 12, are not opened
 unfoldable pub performed : CallValue → ℕ → Step Answer
-unfolding perform inRecord inLength _>>=_ raise clear raiseAt clearAt change retire store storeNew intoHistory historyAfter extendHistory makeRoom forEach addActive addHistory addAudit freeActive freeOldestHistory changeActive changeHistory countSuccess countFailure those first newest without replaced before late same sameIdentity sameKey sameNames parts updatedBy newAlarm clearedBy actedOn act plainAt plain eventStored eventLost attempt eventOf deny allow needsOverride policyAt policy expiredBy expire answerBytes
+unfolding perform inRecord inLength _>>=_ raise clear raiseAt clearAt change retire store storeNew intoHistory historyAfter extendHistory makeRoom forEach addActive addHistory addAudit freeActive freeOldestHistory changeActive changeHistory countSuccess countFailure those first newest without replaced before late same sameIdentity sameKey sameNames parts updatedBy newAlarm clearedBy actedOn act plainAt plain eventStored eventLost attempt eventOf deny allow isCritical needsOverride policyAt policy expiredBy expire answerBytes
 performed c n = perform c n
 
 -- a station's bytes

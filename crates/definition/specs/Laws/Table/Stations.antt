@@ -11,14 +11,13 @@ use Rattle.octets.specs.Bytes.{Bytes, Octets}
 use Rattle.octets.specs.BoolLaws.{both-left, both-right}
 use Rattle.definition.specs.Parse.{parseCall}
 use Rattle.definition.specs.Chain.{upFrom}
-use Rattle.definition.specs.Station.{Station, Outcome, done, stopped, fresh}
-use Rattle.definition.specs.Answer.{Answer}
+use Rattle.definition.specs.Station.{Station, fresh}
 use Rattle.definition.specs.Perform.{perform}
 use Rattle.definition.specs.Sound.{encode}
 use Rattle.definition.specs.Lists.{Reply, replyOf, run}
 use Rattle.definition.specs.Contracts.LegalStation.{LegalStation}
 use Rattle.definition.specs.Laws.Steps.StationBook.{fresh-legalStation}
-use Rattle.definition.specs.Laws.Twins.KeptLegal.{Kept, answered, refused, call-kept}
+use Rattle.definition.specs.Laws.Twins.KeptLegal.{call-kept, stationAfter, legal-after, register-after}
 use Rattle.definition.specs.Laws.Twins.ClaimHolds.{step-legal}
 use Rattle.definition.specs.Laws.Table.Computed.{keyed, parsed, performed, written}
 use Rattle.definition.specs.Laws.Table.Shown.{register, ample, repliesTo, offsets}
@@ -41,18 +40,6 @@ allOctets [] = true
 allOctets (p ∷ l) = areOctets (p .0) && allOctets l
 
 -- ---- from station to station
-
-abbrev pub stationAfter : Station → Outcome Answer → Station
-stationAfter s (done x t) = t
-stationAfter s (stopped n) = s
-
-legal-after : {k : ℕ} {s : Station} {o : Outcome Answer} → LegalStation s → Kept k s o → LegalStation (stationAfter s o)
-legal-after l (answered m k e) = m
-legal-after l (refused k) = l
-
-register-after : (s : Station) (o : Outcome Answer) → replyOf (encode s) o .register ≡ encode (stationAfter s o)
-register-after s (done x t) = refl
-register-after s (stopped n) = refl
 
 unfoldable pub replies : Station → List (Bytes × ℕ) → List Reply
 replies s [] = []

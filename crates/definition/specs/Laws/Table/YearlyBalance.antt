@@ -2,32 +2,22 @@
 -- the definition runs.
 use Prim.Native.Nat.{ℕ}
 use mathlib.Core.Path.{_≡_, refl}
-use mathlib.Core.List.{List, [], _∷_}
+use mathlib.Core.List.{List, [], _∷_, map}
 use lib.Dec.{T}
-use lib.ListN.{length, replicate, length-replicate}
 use Rattle.octets.specs.Bytes.{Bytes, splice}
-use Rattle.octets.specs.BoolLaws.{both-left, both-right}
 use Rattle.definition.specs.Reports.{summary}
-use Rattle.definition.specs.Lists.{Reply, stepOf, run}
-use Rattle.definition.specs.Claim.{Made}
+use Rattle.definition.specs.Lists.{Reply, run}
+use Rattle.definition.specs.Claim.{Made, Trace, AllOctets}
 use Rattle.definition.specs.Balance.{raised, cleared, expired, Place, called, sum, activeLength, Course, lastLeft}
 use Rattle.definition.specs.Laws.Table.Calls.{byte, raise, clear, expire}
 use Rattle.definition.specs.Laws.Table.Shown.{register, ample}
-use Rattle.definition.specs.Laws.Table.Stations.{areOctets, octets, allOctets, computed, by-stations-of}
-
--- ---- calls as they are made, on answer slices of ones: what a refusal leaves there looks like an answer Raised
-
-abbrev madeOf : Bytes × ℕ → Reply → Made
-madeOf p r =
-    let o : Bytes = replicate (p .1) 1 in
-    record { call = p .0; former = o; number = r .number; length = r .length; answer = splice o 0 (r .answer); register = r .register }
-
-abbrev placesOf : List (Bytes × ℕ) → List Reply → List Place
-placesOf [] q = []
-placesOf (p ∷ l) [] = []
-placesOf (p ∷ l) (r ∷ q) = called (madeOf p r) ∷ placesOf l q
+use Rattle.definition.specs.Laws.Table.Stations.{allOctets, computed, by-stations-of}
+use Rattle.definition.specs.Laws.Table.RunMade.{madesOf, run-trace, run-octets}
 
 -- ---- the four figures: "answers Raised = active length + answers Cleared + the sum of the numbers that expire calls gave"
+
+abbrev placesOf : List (Bytes × ℕ) → List Reply → List Place
+placesOf l q = map called (madesOf l q)
 
 abbrev figuresIn : List (Bytes × ℕ) → List Reply → ℕ × ℕ × ℕ × ℕ
 figuresIn l q =
@@ -64,13 +54,11 @@ smallest-lists =
       expired = computes _ tt refl;
     }
 
--- ---- every list that the definition runs is made of such calls, each on the register that the one before left
+-- ---- every list that the definition runs is such a list
+
+course : (b : Bytes) (l : List Made) → AllOctets l → Trace b l → Course b (map called l)
+course b [] o t = tt
+course b (m ∷ l) o t = (o .0, t .0, course (m .register) l (o .1) (t .1))
 
 pub run-course : (l : List (Bytes × ℕ)) (b : Bytes) → T (allOctets l) → Course b (placesOf l (run l b))
-unfolding run allOctets
-run-course [] b t = tt
-run-course (p ∷ l) b t = (
-  octets (p .0) (both-left (areOctets (p .0)) (allOctets l) t),
-  rw length-replicate (record { number-is = refl; length-is = refl; answer-is = refl; register-is = refl }),
-  run-course l (stepOf b (p .0) (p .1) .register) (both-right (areOctets (p .0)) (allOctets l) t),
-)
+run-course l b t = course b (madesOf l (run l b)) (run-octets l b t) (run-trace l b)

@@ -10,21 +10,18 @@ use lib.ListN.{length}
 use borrow.Author.Tests.{eqb-true}
 use Rattle.octets.specs.Bytes.{Bytes, Octets, splice, digits, numberAt}
 use Rattle.octets.specs.NumberLaws.{number-digits}
-use Rattle.definition.specs.Station.{Station, Outcome, fresh}
+use Rattle.definition.specs.Station.{Outcome, fresh}
 use Rattle.definition.specs.Answer.{Answer, headOf, answerBytes}
-use Rattle.definition.specs.Parse.{parseCall}
-use Rattle.definition.specs.Perform.{perform}
 use Rattle.definition.specs.Numbers.{soundRefusals, Among}
-use Rattle.definition.specs.Sound.{encode, station, sound}
+use Rattle.definition.specs.Sound.{station, sound}
 use Rattle.definition.specs.Lists.{replyOf}
 use Rattle.definition.specs.Claim.{Made, MadeOn, AsReplied, operation}
 use Rattle.definition.specs.Balance.{activeLength, isAnswered, raised, cleared, expired, Place, called, carried, sum, Course, lastLeft, Balance}
-use Rattle.definition.specs.Contracts.LegalStation.{LegalStation}
 use Rattle.definition.specs.Laws.Steps.Answers.{said, kindOf, expires-op}
-use Rattle.definition.specs.Laws.Steps.SoundStation.{sound-holds, legal-reads, legal-sound}
-use Rattle.definition.specs.Laws.Steps.SoundChains.{active-length}
+use Rattle.definition.specs.Laws.Steps.SoundStation.{sound-holds, legal-sound}
+use Rattle.definition.specs.Laws.Steps.SoundChains.{active-length, active-encoded}
 use Rattle.definition.specs.Laws.Twins.KeptLegal.{Kept, answered, refused, sound-kept, kept-sound}
-use Rattle.definition.specs.Laws.Twins.ClaimHolds.{opened-fresh, step-legal}
+use Rattle.definition.specs.Laws.Twins.ClaimHolds.{opened-fresh, made-reply}
 
 -- ---- what is read of an answer's bytes is what its head says
 
@@ -32,11 +29,6 @@ use Rattle.definition.specs.Laws.Twins.ClaimHolds.{opened-fresh, step-le
 number-head : (o : Bytes) (x : Answer) → headOf x .number < 256 ^ 8 → numberAt 8 (splice o 0 (answerBytes x)) 8 ≡ headOf x .number
 unfolding answerBytes splice digits
 number-head o x h = number-digits 8 (headOf x .number) [] h
-
--- ---- the active length in a legal station's header
-
-active-encoded : (s : Station) → LegalStation s → activeLength (encode s) ≡ length (s .active)
-active-encoded s l = active-length (encode s) (legal-sound s l) ∙ ap (λ (t : Station). length (t .active)) (legal-reads s l)
 
 -- ---- one call
 
@@ -93,8 +85,7 @@ module _ (b : Bytes) (m : Made) (h : T (sound b)) where
   call-even o g =
       let l = sound-holds b h in
       let k = sound-kept b (m .call) (length (m .former)) o h in
-      let r : AsReplied m (replyOf b (perform (parseCall (m .call)) (length (m .former)) (station b))) =
-      rw (step-legal b (station b) (m .call) (length (m .former)) (l .legal) (sym (l .bytes))) at g in
+      let r = made-reply b (station b) m (l .legal) (sym (l .bytes)) g in
       (subst (λ (c : Bytes). T (sound c)) (sym (r .register-is)) (kept-sound b h k), kept-even k r)
 
 -- ---- lists

@@ -25,7 +25,7 @@ use Rattle.definition.specs.Sound.{encode, sound}
 use Rattle.definition.specs.Laws.Steps.SoundStation.{legal-reads, legal-sound}
 use Rattle.definition.specs.Laws.Steps.Replies.{on-sound}
 use Rattle.definition.specs.Laws.Steps.SideBySide.{Both, both, neither}
-use Rattle.definition.specs.Laws.Steps.Alike.{On, Told}
+use Rattle.definition.specs.Laws.Steps.Alike.{Likeness, On, Told}
 use Rattle.definition.specs.Laws.Twins.TwinStations.{twin}
 use Rattle.definition.specs.Laws.Twins.TwinSteps.{size-twin, perform-twin}
 use Rattle.definition.specs.Laws.Twins.MaskRegister.{mask-encode}
@@ -34,7 +34,7 @@ use Rattle.definition.specs.Mask.{maskRegister, maskAnswer, listsRecords
 use Rattle.definition.specs.Lists.{Reply, replyOf, stepOf, run}
 use Rattle.definition.specs.Twins.{TwinCall, equal, raises, AtEach, TwinLists}
 use Rattle.definition.specs.Laws.Twins.ReadTwins.{twins-read}
-use Rattle.definition.specs.Claim.{Fresh, Gives, Made, Trace, asked, AsReplied, Alike, AllOctets, Claim}
+use Rattle.definition.specs.Claim.{Fresh, Gives, Made, MadeOn, Trace, asked, AsReplied, Alike, AllOctets, Claim}
 
 -- ---- the first half: each call starts from the register that the definition keeps
 
@@ -70,13 +70,17 @@ good : (op : ℕ) {s : Station} {o : Outcome Answer} → Kept (kindOf op) s o �
 good op (answered l k e) = (l, ap (λ (i : ℕ). eqb i 8) k ∙ lists-op op)
 good op (refused k) = tt
 
--- the registers of two stations that differ in texts and details only
-record Twin (b b′ : Bytes) : Type 0 where
-  one : Station
-  two : Station
-  on : On twin (length (one .active)) [] [] one two
-  is-one : b ≡ encode one
-  is-two : b′ ≡ encode two
+-- the registers of two stations that are alike
+pub record AlikeRegisters (k : Likeness) (b b′ : Bytes) : Type 0 where
+  pub one : Station
+  pub two : Station
+  pub on : On k (length (one .active)) [] [] one two
+  pub is-one : b ≡ encode one
+  pub is-two : b′ ≡ encode two
+
+-- they differ in texts and details only
+abbrev Twin : Bytes → Bytes → Type 0
+Twin = AlikeRegisters twin
 
 -- the replies to twin calls
 record TwinReply (op : ℕ) (q q′ : Reply) : Type 0 where
@@ -109,6 +113,11 @@ unfolding stepOf
 step-legal b s c n l e =
     let h : sound b ≡ true = rw e (holds (sound (encode s)) (legal-sound s l)) in
     rw (on-sound, e, legal-reads s l)
+
+-- what a call that was made on them returned and left
+pub made-reply : (b : Bytes) (s : Station) (m : Made) → LegalStation s → b ≡ encode s → MadeOn b m →
+    AsReplied m (replyOf b (perform (parseCall (m .call)) (length (m .former)) s))
+made-reply b s m l e g = rw (step-legal b s (m .call) (length (m .former)) l e) at g
 
 same-op : (c c′ : Bytes) → TwinCall c c′ → getD c 0 0 ≡ getD c′ 0 0
 same-op c c′ (equal p) = ap (λ (x : Bytes). getD x 0 0) p

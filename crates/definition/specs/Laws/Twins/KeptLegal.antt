@@ -13,7 +13,7 @@ use Rattle.definition.specs.Alarm.{Alarm}
 use Rattle.definition.specs.Station.{Station, Outcome, done, stopped, _>>=_}
 use Rattle.definition.specs.Answer.{Answer}
 use Rattle.definition.specs.Perform.{inLength, perform}
-use Rattle.definition.specs.Sound.{station, sound}
+use Rattle.definition.specs.Sound.{encode, station, sound}
 use Rattle.definition.specs.Lists.{replyOf}
 use Rattle.definition.specs.Numbers.{soundRefusals, Among}
 use Rattle.definition.specs.Contracts.LegalStation.{LegalStation}
@@ -88,6 +88,20 @@ call-kept c n s o l = go (call-operation c o) (call-legal c o)
     go : {op : ℕ} {v : CallValue} → Operation op v → LegalCall v → Kept (kindOf op) s (perform v n s)
     go {v = v} (Operation.called k) h = subst (λ (i : ℕ). Kept (kindOf i) s (perform v n s)) k (perform-kept v n s h l)
     go (Operation.refused {n = i}) h = refused (call-listed i h)
+
+-- ---- the station after it
+
+abbrev pub stationAfter : Station → Outcome Answer → Station
+stationAfter s (done x t) = t
+stationAfter s (stopped n) = s
+
+pub legal-after : {k : ℕ} {s : Station} {o : Outcome Answer} → LegalStation s → Kept k s o → LegalStation (stationAfter s o)
+legal-after l (answered m k e) = m
+legal-after l (refused k) = l
+
+pub register-after : (s : Station) (o : Outcome Answer) → replyOf (encode s) o .register ≡ encode (stationAfter s o)
+register-after s (done x t) = refl
+register-after s (stopped n) = refl
 
 -- ---- one call on a sound register
 

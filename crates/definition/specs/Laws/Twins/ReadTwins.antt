@@ -57,6 +57,11 @@ into-local : {A B : Type 0} (c : A → B) (r : Reader A) → Local r → Local (
 unfolding into
 into-local c r l = bind-local _ _ l (λ a. give-local (c a))
 
+-- readers one after the other, however they are grouped
+pub next-assoc : {A B C : Type 0} (o : Out A) (k : A → Reader B) (f : B → Reader C) → next (next o k) f ≡ next o (λ a u. next (k a u) f)
+next-assoc (got a u) k f = refl
+next-assoc (bad n) k f = refl
+
 -- ---- the readers of a raise's fields
 
 bytes-local : (n : ℕ) → Local (bytes n)
@@ -166,20 +171,12 @@ texts v = raiseBody (v .0) (v .1)
 -- a raise's fields are those before the text, and then text and details
 raise-splits : (s : Bytes) → raiseFields s ≡ next (beforeText s) texts
 unfolding raiseFields beforeText _>>=_
-raise-splits s = go (raiseHead s)
+raise-splits s = sym (next-assoc (raiseHead s) _ texts ∙ (λ i. next (raiseHead s) (λ h u. (next-assoc (key u) (early h) texts ∙ (λ j. next (key u) (λ k w. last h k w (named (k .places .region)) j))) i)))
   where
     last : (h : RaiseHeadValue) (k : KeyValue) (u : Bytes) (b : Bool) →
-        cond b (raiseBody h k) (refuse 29) u ≡ next {A = RaiseHeadValue × KeyValue} (cond b (give (h, k)) (refuse 29) u) texts
+        next {A = RaiseHeadValue × KeyValue} (cond b (give (h, k)) (refuse 29) u) texts ≡ cond b (raiseBody h k) (refuse 29) u
     last h k u true = refl
     last h k u false = refl
-
-    inner : (h : RaiseHeadValue) (o : Out KeyValue) → next o (late h) ≡ next (next o (early h)) texts
-    inner h (got k u) = last h k u (named (k .places .region))
-    inner h (bad n) = refl
-
-    go : (o : Out RaiseHeadValue) → next o (λ h. λ u. next (key u) (late h)) ≡ next (next o (λ h. λ u. next (key u) (early h))) texts
-    go (got h u) = inner h (key u)
-    go (bad n) = refl
 
 -- text and details are put beside what was read before them
 data Holds (h : RaiseHeadValue) (k : KeyValue) : Out RaiseValue → Type 0 where

@@ -1,0 +1,159 @@
+-- M-113: stations that are near hold the same active alarms, but for the severity of one at most. Of histories nothing is said, for their sameness looks at severities; nor of the free chains, nor of where records lie. For NearSteps and
+-- ReachHolds.
+use Prim.Native.Nat.{ℕ, _+_, _≤_}
+use mathlib.Core.Path.{_≡_, refl, ap, ap₂}
+use mathlib.Core.List.{List, [], _∷_}
+use mathlib.Core.Bool.{Bool, true, false, cond, _||_}
+use mathlib.Core.Logic.{_⊎_, inl, inr}
+use native.Mathlib.Omega.{arith}
+use native.Mathlib.Decide.{ℕ-discrete}
+use lib.Dec.{eqb}
+use lib.ListN.{length}
+use borrow.Author.Tests.{ne-eqb}
+use Rattle.definition.specs.Value.{RaiseValue}
+use Rattle.definition.specs.Chain.{Entry, entry, contents, those, times}
+use Rattle.definition.specs.Alarm.{Alarm, withSeverity, hasSeverity}
+use Rattle.definition.specs.Station.{Station}
+use Rattle.definition.specs.Steps.{updatedBy, newAlarm, actedOn}
+use Rattle.definition.specs.Twins.{AtEach}
+use Rattle.definition.specs.Reach.{WithinOne}
+use Rattle.definition.specs.Contracts.LegalStation.{LegalStation}
+use Rattle.definition.specs.Laws.Book.Occurrences.{times-hit, times-cons}
+use Rattle.definition.specs.Laws.Steps.LegalSteps.{intoHistory-legal}
+use Rattle.definition.specs.Laws.Steps.PairedChains.{Distinct, nothing}
+use Rattle.definition.specs.Laws.Steps.SideBySide.{both-ends}
+use Rattle.definition.specs.Laws.Steps.Alike.{Likeness, On, Lasting, go-on}
+
+-- ---- near
+
+-- the one alarm: its record on the first station, its severity there, and on the second station
+pub record Wrong : Type 0 where
+  pub place : ℕ
+  pub severity : ℕ
+  pub severity′ : ℕ
+
+abbrev pub wrong : ℕ → ℕ → ℕ → Wrong
+wrong v v′ j = record { place = j; severity = v; severity′ = v′ }
+
+-- without its severity
+abbrev pub unrated : Alarm → Alarm
+unrated a = withSeverity 0 a
+
+pub record NearAt (w : Wrong) (e e′ : Entry Alarm) : Type 0 where
+  pub alike : unrated (e .content) ≡ unrated (e′ .content)
+  pub same : (e .index ≡ w .place → ⊥) → e .content ≡ e′ .content
+  pub severities : (e .content .severity ≡ e′ .content .severity) ⊎ ((e .content .severity ≡ w .severity) × (e′ .content .severity ≡ w .severity′))
+
+abbrev pub near : Wrong → Likeness
+near w =
+    record {
+      Pair = NearAt w;
+      New = λ a a′. a ≡ a′;
+      Past = λ a a′. Unit {0};
+      Rest = λ s t. Unit {0};
+      Says = λ x y. Unit {0};
+      Raise = λ c c′. c ≡ c′;
+    }
+
+module _ (w : Wrong) where
+  same-near : (i i′ : ℕ) {a a′ : Alarm} → a ≡ a′ → NearAt w (entry i a) (entry i′ a′)
+  same-near i i′ p = record { alike = ap unrated p; same = λ n. p; severities = inl (ap (λ (a : Alarm). a .severity) p) }
+
+  pub near-lasts : Lasting (near w)
+  unfolding updatedBy actedOn
+  near-lasts = record {
+    keys = λ h. ap (λ (a : Alarm). a .key) (h .alike);
+    ids = λ h. ap (λ (a : Alarm). a .id) (h .alike);
+    times = λ h. ap (λ (a : Alarm). a .updatedAt) (h .alike);
+    updates = λ r h. record {
+      alike = ap₂ (λ (x : RaiseValue) (a : Alarm). unrated (updatedBy x a)) r (h .alike);
+      same = λ n. ap₂ updatedBy r (h .same n);
+      severities = inl (ap (λ (x : RaiseValue). x .head .severity) r);
+    };
+    acts = λ x t h. record { alike = ap (λ (a : Alarm). unrated (actedOn x t a)) (h .alike); same = λ n. ap (actedOn x t) (h .same n); severities = h .severities };
+    news = λ i h r. ap (λ (c : RaiseValue). newAlarm c i) r;
+    clears = λ t h. tt;
+    expires = λ t h. tt;
+    pairPast = λ h. tt;
+    newPast = λ h. tt;
+    changed = λ h. tt;
+    freed = λ p h. tt;
+    stored = λ {s} {t} h p. same-near _ _ h;
+    taken = λ h. tt;
+    files = λ {a} {a′} u g. record {
+      from = λ s t p. both-ends (intoHistory-legal s (p .legal) a (g .0)) (intoHistory-legal t (p .legal′) a′ (g .1)) (λ x y s′ t′ q r. go-on p q r tt);
+    };
+    saysSame = λ x. tt;
+    saysRaised = λ h. tt;
+    saysUpdated = λ h. tt;
+    saysActed = λ x h. tt;
+  }
+
+  -- a station is near itself
+  pub near-self : (c : List (Entry Alarm)) → AtEach (NearAt w) c c
+  near-self [] = tt
+  near-self (e ∷ c) = (same-near _ _ refl, near-self c)
+
+  pub alone : (s : Station) → LegalStation s → On (near w) (length (s .active)) [] [] s s
+  alone s l = record { legal = l; legal′ = l; size = refl; limit = refl; pairs = near-self (s .active); picked = nothing; rest = tt }
+
+-- ---- how many active alarms have a severity
+
+abbrev pub rated : ℕ → List (Entry Alarm) → ℕ
+rated u c = length (those (hasSeverity u) (contents c))
+
+-- one more, or not
+abbrev hit : ℕ → Alarm → ℕ
+hit u a = cond (hasSeverity u a) 1 0
+
+hit-most : (u : ℕ) (a : Alarm) → hit u a ≤ 1
+hit-most u a = go (hasSeverity u a)
+  where
+    go : (b : Bool) → cond b 1 0 ≤ 1
+    go true = omega arith
+    go false = omega arith
+
+rated-cons : (u : ℕ) (e : Entry Alarm) (c : List (Entry Alarm)) → rated u (e ∷ c) ≡ hit u (e .content) + rated u c
+unfolding those
+rated-cons u e c = go (hasSeverity u (e .content))
+  where
+    go : (b : Bool) → length (cond b (e .content ∷ those (hasSeverity u) (contents c)) (those (hasSeverity u) (contents c))) ≡ cond b 1 0 + rated u c
+    go true = omega arith
+    go false = omega arith
+
+module _ (w : Wrong) where
+  -- where record j is not on the chain, no count differs
+  without-apart : (u : ℕ) (c c′ : List (Entry Alarm)) → AtEach (NearAt w) c c′ → times (w .place) c ≡ 0 → rated u c ≡ rated u c′
+  without-apart u [] [] h z = refl
+  without-apart u [] (e ∷ c) h z = absurd h
+  without-apart u (e ∷ c) [] h z = absurd h
+  without-apart u (e ∷ c) (e′ ∷ c′) h z =
+      let p = ap (hit u) (h .0 .same (λ p. omega (arith, times-hit e c (w .place) p))) in
+      let q = without-apart u c c′ (h .1) (omega (arith, times-cons e c (w .place))) in
+      omega (arith, p, q, rated-cons u e c, rated-cons u e′ c′)
+
+  pub near-counts : (u : ℕ) (c c′ : List (Entry Alarm)) → Distinct c → AtEach (NearAt w) c c′ → WithinOne (rated u c) (rated u c′)
+  near-counts u [] [] d h = record { above = omega arith; below = omega arith }
+  near-counts u [] (e ∷ c) d h = absurd h
+  near-counts u (e ∷ c) [] d h = absurd h
+  near-counts u (e ∷ c) (e′ ∷ c′) d h = elim (ℕ-discrete (e .index) (w .place)) [
+    | yes p ↦ (let q = without-apart u c c′ (h .1) (omega (arith, d (w .place), times-hit e c (w .place) p)) in
+        let x = hit-most u (e .content) in
+        let y = hit-most u (e′ .content) in
+        record { above = omega (arith, q, x, y, rated-cons u e c, rated-cons u e′ c′); below = omega (arith, q, x, y, rated-cons u e c, rated-cons u e′ c′) })
+    | no n ↦ (let r = near-counts u c c′ (λ i. omega (arith, d i, times-cons e c i)) (h .1) in
+        let q = ap (hit u) (h .0 .same n) in
+        record { above = omega (arith, q, r .above, rated-cons u e c, rated-cons u e′ c′); below = omega (arith, q, r .below, rated-cons u e c, rated-cons u e′ c′) })
+  ]
+
+  -- other severities than the two
+  module _ (u : ℕ) (n : u ≡ w .severity → ⊥) (n′ : u ≡ w .severity′ → ⊥) where
+    other-hit : (a a′ : Alarm) → (a .severity ≡ a′ .severity) ⊎ ((a .severity ≡ w .severity) × (a′ .severity ≡ w .severity′)) → hit u a ≡ hit u a′
+    other-hit a a′ (inl p) = ap (λ (x : ℕ). cond (eqb u 255 || eqb u x) 1 0) p
+    other-hit a a′ (inr (p, p′)) = rw (p, p′, ne-eqb u (w .severity) n, ne-eqb u (w .severity′) n′)
+
+    pub near-others : (c c′ : List (Entry Alarm)) → AtEach (NearAt w) c c′ → rated u c ≡ rated u c′
+    near-others [] [] h = refl
+    near-others [] (e ∷ c) h = absurd h
+    near-others (e ∷ c) [] h = absurd h
+    near-others (e ∷ c) (e′ ∷ c′) h = omega (arith, other-hit (e .content) (e′ .content) (h .0 .severities), near-others c c′ (h .1), rated-cons u e c, rated-cons u e′ c′)

@@ -1,0 +1,166 @@
+-- M-113: one call on each of two stations that are near leaves them near, if it is no policy call or changes nothing; and a raise with another
+-- severity leaves a station near itself. For ReachHolds.
+use Prim.Native.Nat.{ℕ, _<_}
+use mathlib.Core.Path.{_≡_, refl, ap}
+use mathlib.Core.List.{[]}
+use mathlib.Core.Bool.{Bool, true, false, cond}
+use mathlib.Core.Logic.{inr}
+use mathlib.Core.Option.{Option, none, some}
+use native.Mathlib.Omega.{arith}
+use lib.Dec.{T, leb, ltb}
+use lib.ListN.{length, take}
+use borrow.Author.Tests.{leb-false}
+use Rattle.octets.specs.Bytes.{Bytes}
+use Rattle.definition.specs.Value.{RaiseValue, CallValue, opOf, acknowledging, suppressing}
+use Rattle.definition.specs.Key.{keyOf}
+use Rattle.definition.specs.Laws.Text.Key.{length-key}
+use Rattle.definition.specs.Chain.{Entry, entry, contents, present, first}
+use Rattle.definition.specs.Alarm.{Alarm, hasKey, hasId}
+use Rattle.definition.specs.Station.{Station, Outcome, Step, after, _>>=_, give, refuse, look, nextFree}
+use Rattle.definition.specs.Answer.{Answer, Updated, Events, answerBytes}
+use Rattle.definition.specs.Steps.{updatedBy, newAlarm, store, storeNew, limitExceeded, raiseAt, raise}
+use Rattle.definition.specs.Reports.{activeList, historyList, counts, summary, takeAudit}
+use Rattle.definition.specs.Perform.{inRecord, inLength, perform}
+use Rattle.definition.specs.Reach.{isPolicy}
+use Rattle.definition.specs.Contracts.LegalFields.{LegalRaise, LegalCall}
+use Rattle.definition.specs.Contracts.LegalStation.{LegalStation}
+use Rattle.definition.specs.Laws.Steps.ChangedLegal.{past, updated-legal, new-legal}
+use Rattle.definition.specs.Laws.Steps.LegalMoves.{Ends, ok, Aside}
+use Rattle.definition.specs.Laws.Steps.LegalSteps.{frees-legal}
+use Rattle.definition.specs.Laws.Steps.PairedChains.{Search, found, first-each, picked-holds}
+use Rattle.definition.specs.Laws.Steps.SideBySide.{Both, both, neither, Related, Only, post-related, after-both, then-related, give-related, look-related}
+use Rattle.definition.specs.Laws.Steps.Alike.{On, Told, go-on, pick, add-active-at}
+use Rattle.definition.specs.Laws.Steps.AlikeSteps.{settled, told, change-like, raise-like, clear-like, plain-like, expire-like, inRecord-like}
+use Rattle.definition.specs.Laws.Twins.KeptLegal.{stationAfter}
+use Rattle.definition.specs.Laws.Twins.NearStations.{Wrong, wrong, unrated, NearAt, near, near-lasts, near-self, alone}
+
+-- ---- the raise whose severity is another
+
+-- the raise with another severity
+abbrev pub ratedRaise : ℕ → RaiseValue → RaiseValue
+ratedRaise v c =
+    record { head = record { time = c .head .time; id = c .head .id; type = c .head .type; severity = v }; key = c .key; text = c .text; details = c .details }
+
+-- near, but for some alarm whose severities are v and v′
+abbrev pub NearBut : ℕ → ℕ → Station → Station → Type 0
+NearBut v v′ s t = (j : ℕ) × On (near (wrong v v′ j)) (length (s .active)) [] [] s t
+
+module _ (s : Station) (l : LegalStation s) (c : RaiseValue) (v′ : ℕ) (f : LegalRaise c) (f′ : LegalRaise (ratedRaise v′ c)) where
+  -- record j has the alarm that is raised
+  abbrev raisedAt : ℕ → Wrong
+  raisedAt j = wrong (c .head .severity) v′ j
+
+  abbrev Apart : Answer → Answer → Station → Station → Type 0
+  Apart = Only (NearBut (c .head .severity) v′)
+
+  apart-at : (j : ℕ) (a a′ : Alarm) → a .severity ≡ c .head .severity → a′ .severity ≡ v′ → unrated a ≡ unrated a′ → NearAt (raisedAt j) (entry j a) (entry j a′)
+  apart-at j a a′ p p′ h = record { alike = h; same = λ n. absurd (n refl); severities = inr (p, p′) }
+
+  store-apart : (k : Bytes) → length k ≡ 16 → length (s .active) < s .limitA → Both Apart (store (newAlarm c k) s) (store (newAlarm (ratedRaise v′ c) k) s)
+  unfolding store newAlarm _>>=_
+  store-apart k h room =
+      let w = raisedAt (nextFree s) in
+      let g = new-legal c k f h in
+      let g′ = new-legal (ratedRaise v′ c) k f′ h in
+      after-both _ _ (λ x y. then-related (near-lasts w .files tt (past _ g, past _ g′)) (give-related (λ t u p. (nextFree s, settled (near-lasts w) p))))
+      (add-active-at (near-lasts w) s s (alone w s l, room) (g, g′) (apart-at (nextFree s) _ _ refl refl refl))
+
+  raise-apart : Both Apart (raise c s) (raise (ratedRaise v′ c) s)
+  unfolding raise raiseAt storeNew newAlarm updatedBy _>>=_
+  raise-apart = go (first (hasKey k) (s .active)) (first-each (NearAt (raisedAt 0)) (hasKey k) (λ e e′ h. ap (λ (a : Alarm). hasKey k a) (h .alike)) (s .active) (s .active) (near-self (raisedAt 0) (s .active)))
+    where
+      k : Bytes
+      k = keyOf (c .head .type) (c .key)
+
+      taken : (b : Bool) → length (s .active) < s .limitA → Both Apart (cond b (refuse 31) (store (newAlarm c k)) s) (cond b (refuse 31) (store (newAlarm (ratedRaise v′ c) k)) s)
+      taken true room = neither {n = 31} tt
+      taken false room = store-apart k (length-key _ _) room
+
+      full : (b : Bool) → leb (s .limitA) (length (s .active)) ≡ b →
+          Both Apart (cond b (limitExceeded k) (storeNew (newAlarm c k)) s) (cond b (limitExceeded k) (storeNew (newAlarm (ratedRaise v′ c) k)) s)
+      full true h = both (0, alone (raisedAt 0) s l)
+      full false h = taken (present (first (hasId (c .head .id)) (s .active))) (leb-false (s .limitA) (length (s .active)) h)
+
+      go : (o : Option (Entry Alarm)) → Search (NearAt (raisedAt 0)) (s .active) (s .active) o o → Both Apart (raiseAt c k o s) (raiseAt (ratedRaise v′ c) k o s)
+      go none p = full (leb (s .limitA) (length (s .active))) refl
+      go (some e) (found h q) =
+          let j = e .index in
+          let w = raisedAt j in
+          let g = picked-holds _ q (l .fields .active) (l .fields .active) in
+          post-related {Q′ = Apart} (λ x y t u p. (j, p .on))
+          (change-like (near-lasts w) Updated (apart-at j _ _ refl refl refl) (updated-legal c (e .content) f (g .0), updated-legal (ratedRaise v′ c) (e .content) f′ (g .1)) tt refl)
+          .from s s (pick (near-lasts w) (alone w s l) q)
+
+-- ---- one call on each
+
+-- what two outcomes leave
+abbrev NearAfter : Wrong → Station → Station → Outcome Answer → Outcome Answer → Type 0
+NearAfter w s t o o′ = On (near w) (length (stationAfter s o .active)) [] [] (stationAfter s o) (stationAfter t o′)
+
+module _ {w : Wrong} {m : ℕ} {s t : Station} (p : On (near w) m [] [] s t) where
+  -- a step that is done on both or on neither
+  in-record : {i : ℕ} (n : ℕ) {step : Step Answer} → Related (On (near w) m [] []) (Told (near w) i m) step step → NearAfter w s t (inRecord n step s) (inRecord n step t)
+  in-record {i} n x = go (inRecord-like (near-lasts w) n x .from s t p)
+    where
+      go : {o o′ : Outcome Answer} → Both (Told (near w) i m) o o′ → NearAfter w s t o o′
+      go (both q) = q .on
+      go (neither k) = settled (near-lasts w) p
+
+-- a look leaves the station, answered or not
+looked : (n : ℕ) (f : Station → Answer) (s : Station) → stationAfter s (inLength n (look f) s) ≡ s
+unfolding inLength _>>=_
+looked n f s = go (ltb n (length (answerBytes (f s))))
+  where
+    go : (b : Bool) → stationAfter s (cond b (refuse 30) (give (f s)) s) ≡ s
+    go true = refl
+    go false = refl
+
+-- taking audit events leaves the active chain, answered or not
+audited : (n i : ℕ) (s : Station) → LegalStation s → Aside s (stationAfter s (inLength n (takeAudit i) s))
+unfolding inLength takeAudit _>>=_
+audited n i s l = go (frees-legal (take i (s .audit)) s l)
+  where
+    x : Answer
+    x = Events (contents (take i (s .audit)))
+
+    fits : {t : Station} (b : Bool) → Aside s t → Aside s (stationAfter s (cond b (refuse 30) (give x) t))
+    fits true h = record { legal = l; same = refl; limit = refl }
+    fits false h = h
+
+    go : {o : Outcome (Unit {0})} → Ends (λ u t. Aside s t) o → Aside s (stationAfter s (after (after o (λ u. give x)) (λ a. cond (ltb n (length (answerBytes a))) (refuse 30) (give a))))
+    go (ok h) = fits (ltb n (length (answerBytes x))) h
+
+summary-near : (w : Wrong) {n : ℕ} → Related (On (near w) n [] []) (Told (near w) 0 n) summary summary
+unfolding summary
+summary-near w = look-related (λ s t p. told (near-lasts w) tt refl (omega arith) s t p)
+
+-- a call c with an answer slice of n bytes; a policy call changes neither station
+pub near-call : (w : Wrong) {m : ℕ} (c : CallValue) (n : ℕ) (s t : Station) → LegalCall c →
+    (T (isPolicy (opOf c)) → (stationAfter s (perform c n s) ≡ s) × (stationAfter t (perform c n t) ≡ t)) → On (near w) m [] [] s t →
+    NearAfter w s t (perform c n s) (perform c n t)
+unfolding perform inLength _>>=_ activeList historyList counts
+near-call w (CallValue.raise c) n s t h q p = in-record p n (raise-like (near-lasts w) {c = c} {w = c .text} {d = c .details} refl h h)
+near-call w (CallValue.clear c) n s t h q p = in-record p n (clear-like (near-lasts w) c h)
+near-call w (CallValue.plain acknowledging v) n s t h q p = in-record p n (plain-like (near-lasts w) acknowledging v h)
+near-call w (CallValue.plain suppressing v) n s t h q p = in-record p n (plain-like (near-lasts w) suppressing v h)
+near-call w (CallValue.policy acknowledging v) n s t h q p = rw (q tt .0, q tt .1) (settled (near-lasts w) p)
+near-call w (CallValue.policy suppressing v) n s t h q p = rw (q tt .0, q tt .1) (settled (near-lasts w) p)
+near-call w (CallValue.expire u) n s t h q p = in-record p n (expire-like (near-lasts w) u h)
+near-call w (CallValue.active v) n s t h q p = rw (looked n _ s, looked n _ t) (settled (near-lasts w) p)
+near-call w (CallValue.history u v) n s t h q p = rw (looked n _ s, looked n _ t) (settled (near-lasts w) p)
+near-call w CallValue.counts n s t h q p = rw (looked n _ s, looked n _ t) (settled (near-lasts w) p)
+near-call w CallValue.summary n s t h q p = in-record p n (summary-near w)
+near-call w (CallValue.takeAudit i) n s t h q p = settled (near-lasts w) (go-on p (audited n i s (p .legal)) (audited n i t (p .legal′)) tt)
+near-call w (CallValue.refused k) n s t h q p = settled (near-lasts w) p
+
+-- the raise with the severity v, and the same with v′, on one station
+pub call-apart : (s : Station) → LegalStation s → (c : RaiseValue) (v′ n : ℕ) → LegalRaise c → LegalRaise (ratedRaise v′ c) →
+    NearBut (c .head .severity) v′ (stationAfter s (perform (CallValue.raise c) n s)) (stationAfter s (perform (CallValue.raise (ratedRaise v′ c)) n s))
+unfolding perform
+call-apart s l c v′ n f f′ =
+    go (inRecord-like (near-lasts (wrong (c .head .severity) v′ 0)) n
+    (record { from = λ a b (p : (a ≡ s) × (b ≡ s)). rw (p .0, p .1) (raise-apart s l c v′ f f′) }) .from s s (refl, refl))
+  where
+    go : {o o′ : Outcome Answer} → Both (Only (NearBut (c .head .severity) v′)) o o′ → NearBut (c .head .severity) v′ (stationAfter s o) (stationAfter s o′)
+    go (both q) = q
+    go (neither b) = (0, alone _ s l)

@@ -1,0 +1,111 @@
+-- M-113, "How far one wrong severity reaches": "Technicians sometimes enter minor for major and wonder how much of the day's figures is
+-- spoilt."
+use Prim.Native.Nat.{ℕ, suc, _≤_}
+use mathlib.Core.Path.{_≡_}
+use mathlib.Core.List.{List, [], _∷_, _++_, map}
+use mathlib.Core.Bool.{Bool, false, _&&_, _||_}
+use lib.Dec.{T, eqb}
+use lib.ListN.{length}
+use Rattle.octets.specs.Bytes.{Bytes}
+use Rattle.definition.specs.Limits.{shortLimit}
+use Rattle.definition.specs.Reader.{got, Reader, _>>=_, give, number, text}
+use Rattle.definition.specs.Chain.{contents, those}
+use Rattle.definition.specs.Alarm.{hasSeverity}
+use Rattle.definition.specs.Numbers.{Among}
+use Rattle.definition.specs.Sound.{station, sound}
+use Rattle.definition.specs.Twins.{AtEach}
+use Rattle.definition.specs.Claim.{Fresh, Made, Trace, operation, asked, AllOctets}
+use Rattle.definition.specs.Balance.{isAnswered, activeLength}
+
+-- ---- "two lists .. differ only in the legal severity byte of one raise"
+
+-- a raise's fields before its severity: time, id, type
+unfoldable pub beforeSeverity : Reader (ℕ × Bytes × Bytes)
+beforeSeverity = do
+  time ← number 8
+  id ← text shortLimit
+  type ← text shortLimit
+  give (time, id, type)
+
+-- two raises with the same bytes, but for the severity: v and v′. `before` is what is read before it; `after` may be of any kind
+pub record SeverityApart (v v′ : ℕ) (b b′ : Bytes) : Type 0 where
+  pub before : Bytes
+  pub after : Bytes
+  pub is : b ≡ 1 ∷ (before ++ (v ∷ after))
+  pub is′ : b′ ≡ 1 ∷ (before ++ (v′ ∷ after))
+  pub fields : ℕ × Bytes × Bytes
+  pub read : beforeSeverity (before ++ (v ∷ after)) ≡ got fields (v ∷ after)
+  pub legal : v ≤ 5
+  pub legal′ : v′ ≤ 5
+
+-- two lists with the same calls and answer lengths, but for one such raise
+pub record OneApart (v v′ : ℕ) (l l′ : List (Bytes × ℕ)) : Type 0 where
+  pub earlier : List (Bytes × ℕ)
+  pub later : List (Bytes × ℕ)
+  pub call : Bytes
+  pub call′ : Bytes
+  pub room : ℕ
+  pub is : l ≡ earlier ++ ((call, room) ∷ later)
+  pub is′ : l′ ≡ earlier ++ ((call′, room) ∷ later)
+  pub apart : SeverityApart v v′ call call′
+
+-- they were made, one from the register b and the other from b′
+pub record MadeApart (v v′ : ℕ) (b b′ : Bytes) (l l′ : List Made) : Type 0 where
+  pub made : Trace b l
+  pub made′ : Trace b′ l′
+  pub octets : AllOctets l
+  pub octets′ : AllOctets l′
+  pub apart : OneApart v v′ (map asked l) (map asked l′)
+
+-- ---- "Policy calls are left aside, since a critical severity may stop a suppression."
+
+-- "5, 6 the same with policy"
+abbrev pub isPolicy : ℕ → Bool
+isPolicy op = eqb op 5 || eqb op 6
+
+-- no policy call is answered. Refused calls change nothing, and may stand in a list whatever their first byte is
+abbrev pub NoPolicy : List Made → Type 0
+NoPolicy [] = Unit {0}
+NoPolicy (m ∷ l) = (isPolicy (operation m) && isAnswered m ≡ false) × NoPolicy l
+
+-- ---- "after every call the active lengths are equal, and the active count of each severity differs by at most one"
+
+-- how many active alarms have the severity u; as for operation 8, 255 stands for all
+abbrev pub activeCount : ℕ → Bytes → ℕ
+activeCount u b = length (those (hasSeverity u) (contents (station b .active)))
+
+pub record WithinOne (x y : ℕ) : Type 0 where
+  pub above : x ≤ suc y
+  pub below : y ≤ suc x
+
+-- of the registers b and b′, where the two severities are v and v′. Other severities have equal counts
+pub record Bounded (v v′ : ℕ) (b b′ : Bytes) : Type 0 where
+  pub lengths : activeLength b ≡ activeLength b′
+  pub counts : (u : ℕ) → WithinOne (activeCount u b) (activeCount u b′)
+  pub others : (u : ℕ) → (u ≡ v → ⊥) → (u ≡ v′ → ⊥) → activeCount u b ≡ activeCount u b′
+
+abbrev pub BoundedAfter : ℕ → ℕ → Made → Made → Type 0
+BoundedAfter v v′ m m′ = Bounded v v′ (m .register) (m′ .register)
+
+-- ---- the request's own premises: "ops 1 to 4 and 7 to 12 .., with answer slices long enough for every answer", so that none gives 30
+
+abbrev pub requestedOperations : List ℕ
+requestedOperations = 1 ∷ 2 ∷ 3 ∷ 4 ∷ 7 ∷ 8 ∷ 9 ∷ 10 ∷ 11 ∷ 12 ∷ []
+
+abbrev pub Requested : List Made → Type 0
+Requested [] = Unit {0}
+Requested (m ∷ l) = Among (operation m) requestedOperations × (m .number ≡ 30 → ⊥) × Requested l
+
+-- ---- how far it reaches
+
+pub record Reach : Type 0 where
+  -- "from equal fresh registers", opened with the same limits. With equal answer lengths it holds for all lengths: operations 1 to 4 and 7 ask
+  -- for the same room in both lists, and the others leave the active chain as it is, answered or not
+  pub fresh : (a h e v v′ : ℕ) (b b′ : Bytes) (l l′ : List Made) → Fresh a h e b → Fresh a h e b′ → MadeApart v v′ b b′ l l′ →
+      NoPolicy l → NoPolicy l′ → AtEach (BoundedAfter v v′) l l′
+  -- the request's own sentence
+  pub requested : (a h e v v′ : ℕ) (b b′ : Bytes) (l l′ : List Made) → Fresh a h e b → Fresh a h e b′ → MadeApart v v′ b b′ l l′ →
+      Requested l → Requested l′ → AtEach (BoundedAfter v v′) l l′
+  -- from any sound register, as a running cabinet has it
+  pub onward : (v v′ : ℕ) (b : Bytes) (l l′ : List Made) → T (sound b) → MadeApart v v′ b b l l′ → NoPolicy l → NoPolicy l′ →
+      AtEach (BoundedAfter v v′) l l′
