@@ -1,4 +1,5 @@
--- The cases marked *, that each number is given, and the balance of the smallest lists, proved by computation of the definition. Nothing cites them.
+-- The cases marked *, that each number is given, the balance of the smallest lists, and what one wrong severity changes, proved by computation of the
+-- definition. Nothing cites them.
 pub mod Calls
 pub mod Shown
 pub mod Computed

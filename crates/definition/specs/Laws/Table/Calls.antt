@@ -57,8 +57,8 @@ abbrev pub sentBehindSeverity : Bytes
 sentBehindSeverity = sentAbout "lease-lost" (tenant "a") absent ++ (sent "" ++ absent)
 
 -- at time 0, with the id `a`, and another severity
-abbrev pub raiseRated : ℕ → Bytes
-raiseRated severity = 1 ∷ (sentBeforeSeverity 0 "a" ++ (severity ∷ sentBehindSeverity))
+abbrev pub raiseAs : ℕ → Bytes
+raiseAs severity = 1 ∷ (sentBeforeSeverity 0 "a" ++ (severity ∷ sentBehindSeverity))
 
 -- ---- "2 clear: time, type, cause, object, tenant?, slice?, region?": what `raise` raised
 abbrev pub clear : ℕ → String → Bytes

@@ -17,7 +17,7 @@ use Rattle.definition.specs.Lists.{Reply, run}
 use Rattle.definition.specs.Twins.{AtEach}
 use Rattle.definition.specs.Claim.{Made}
 use Rattle.definition.specs.Reach.{beforeSeverity, SeverityApart, OneApart, MadeApart, BoundedAfter}
-use Rattle.definition.specs.Laws.Table.Calls.{sentBeforeSeverity, sentBehindSeverity, raiseRated, suppressByPolicy, expire}
+use Rattle.definition.specs.Laws.Table.Calls.{sentBeforeSeverity, sentBehindSeverity, raiseAs, suppressByPolicy, expire}
 use Rattle.definition.specs.Laws.Table.Shown.{register, ample, repliesTo, left, answered, leaving}
 use Rattle.definition.specs.Laws.Table.Computed.{parsed}
 use Rattle.definition.specs.Laws.Table.Stations.{allOctets, computed, by-stations}
@@ -35,7 +35,7 @@ lastCount (r ∷ (r′ ∷ q)) = lastCount (r′ ∷ q)
 
 -- how many active alarms operation 8 lists for the severity u, after a raise with the severity v
 abbrev listed : ℕ → ℕ → ℕ
-listed u v = lastCount (repliesTo (raiseRated v ∷ (8 ∷ u ∷ []) ∷ []))
+listed u v = lastCount (repliesTo (raiseAs v ∷ (8 ∷ u ∷ []) ∷ []))
 
 pub record WhatDiffers : Type 0 where
   -- minor for major: each of the two counts by one
@@ -43,12 +43,12 @@ pub record WhatDiffers : Type 0 where
   pub major : (listed 4 3 ≡ 0) × (listed 4 4 ≡ 1)
   -- history's sameness looks at the severity: major in the second of three raises, and one entry more
   pub history :
-      (held (left (repliesTo (raiseRated 3 ∷ raiseRated 4 ∷ raiseRated 3 ∷ []))) ≡ (1, 3))
-      × (held (left (repliesTo (raiseRated 3 ∷ raiseRated 3 ∷ raiseRated 3 ∷ []))) ≡ (1, 2))
+      (held (left (repliesTo (raiseAs 3 ∷ raiseAs 4 ∷ raiseAs 3 ∷ []))) ≡ (1, 3))
+      × (held (left (repliesTo (raiseAs 3 ∷ raiseAs 3 ∷ raiseAs 3 ∷ []))) ≡ (1, 2))
   -- "a critical severity may stop a suppression": then updated_at stays as it was, and the alarm expires
   pub policy :
-      (leaving held (repliesTo (raiseRated 5 ∷ suppressByPolicy 2 "a" 1 ∷ expire 1 ∷ [])) ≡ (answered 1 ∷ answered 8 ∷ answered 11 ∷ [], (0, 2)))
-      × (leaving held (repliesTo (raiseRated 3 ∷ suppressByPolicy 2 "a" 1 ∷ expire 1 ∷ [])) ≡ (answered 1 ∷ answered 6 ∷ answered 11 ∷ [], (1, 2)))
+      (leaving held (repliesTo (raiseAs 5 ∷ suppressByPolicy 2 "a" 1 ∷ expire 1 ∷ [])) ≡ (answered 1 ∷ answered 8 ∷ answered 11 ∷ [], (0, 2)))
+      × (leaving held (repliesTo (raiseAs 3 ∷ suppressByPolicy 2 "a" 1 ∷ expire 1 ∷ [])) ≡ (answered 1 ∷ answered 6 ∷ answered 11 ∷ [], (1, 2)))
 
 pub what-differs : WhatDiffers
 unfolding allOctets computed severityOrAll activeList alarmRecords
@@ -73,9 +73,9 @@ run-apart v v′ l l′ b t t′ d =
     }
 
 -- such are two raises of the table, and lists with one of them each
-rated-apart : (v v′ : ℕ) → v ≤ 5 → v′ ≤ 5 → SeverityApart v v′ (raiseRated v) (raiseRated v′)
+raises-apart : (v v′ : ℕ) → v ≤ 5 → v′ ≤ 5 → SeverityApart v v′ (raiseAs v) (raiseAs v′)
 unfolding parsed beforeSeverity
-rated-apart v v′ h h′ =
+raises-apart v v′ h h′ =
     record {
       before = sentBeforeSeverity 0 "a";
       after = sentBehindSeverity;
@@ -90,7 +90,7 @@ rated-apart v v′ h h′ =
 -- ---- a policy call behind the raise would break it
 
 abbrev suppressed : ℕ → List (Bytes × ℕ)
-suppressed v = ample (raiseRated v) ∷ ample (suppressByPolicy 2 "a" 1) ∷ ample (expire 1) ∷ []
+suppressed v = ample (raiseAs v) ∷ ample (suppressByPolicy 2 "a" 1) ∷ ample (expire 1) ∷ []
 
 pub policy-needed : ((v v′ : ℕ) (b : Bytes) (l l′ : List Made) → T (sound b) → MadeApart v v′ b b l l′ → AtEach (BoundedAfter v v′) l l′) → ⊥
 unfolding allOctets computed repliesTo run
@@ -98,12 +98,12 @@ policy-needed f =
     let d : OneApart 5 3 (suppressed 5) (suppressed 3) = record {
       earlier = [];
       later = ample (suppressByPolicy 2 "a" 1) ∷ ample (expire 1) ∷ [];
-      call = raiseRated 5;
-      call′ = raiseRated 3;
+      call = raiseAs 5;
+      call′ = raiseAs 3;
       room = 65536;
       is = refl;
       is′ = refl;
-      apart = rated-apart 5 3 (omega arith) (omega arith);
+      apart = raises-apart 5 3 (omega arith) (omega arith);
     } in
     let r = f 5 3 register _ _ (legal-sound (fresh 2 3 1) (fresh-legalStation 2 3 1 (omega arith) (omega arith) (omega arith))) (run-apart 5 3 (suppressed 5) (suppressed 3) register tt tt d) in
     omega (arith, r .1 .1 .0 .lengths, ap (λ x. x .1 .0) (what-differs .policy .0), ap (λ x. x .1 .0) (what-differs .policy .1))

@@ -1,5 +1,5 @@
--- M-113: stations that are near hold the same active alarms, but for the severity of one at most. Of histories nothing is said, for their sameness looks at severities; nor of the free chains, nor of where records lie. For NearSteps and
--- ReachHolds.
+-- M-113: stations that are near hold the same active alarms in the same order, but for the severity of one at most. Of histories nothing is said,
+-- for their sameness looks at severities; nor of the free chains, nor of where records lie. For NearSteps and ReachHolds.
 use Prim.Native.Nat.{ℕ, _+_, _≤_}
 use mathlib.Core.Path.{_≡_, refl, ap, ap₂}
 use mathlib.Core.List.{List, [], _∷_}
@@ -26,22 +26,23 @@ use Rattle.definition.specs.Laws.Steps.Alike.{Likeness, On, Lasting, go-
 
 -- ---- near
 
--- the one alarm: its record on the first station, its severity there, and on the second station
+-- the one alarm: the index of its record on the first station, its severity there, and on the second station
 pub record Wrong : Type 0 where
-  pub place : ℕ
+  pub index : ℕ
   pub severity : ℕ
   pub severity′ : ℕ
 
 abbrev pub wrong : ℕ → ℕ → ℕ → Wrong
-wrong v v′ j = record { place = j; severity = v; severity′ = v′ }
+wrong v v′ j = record { index = j; severity = v; severity′ = v′ }
 
 -- without its severity
-abbrev pub unrated : Alarm → Alarm
-unrated a = withSeverity 0 a
+abbrev pub withoutSeverity : Alarm → Alarm
+withoutSeverity a = withSeverity 0 a
 
+-- two alarms at the same place of the active chains
 pub record NearAt (w : Wrong) (e e′ : Entry Alarm) : Type 0 where
-  pub alike : unrated (e .content) ≡ unrated (e′ .content)
-  pub same : (e .index ≡ w .place → ⊥) → e .content ≡ e′ .content
+  pub alike : withoutSeverity (e .content) ≡ withoutSeverity (e′ .content)
+  pub same : (e .index ≡ w .index → ⊥) → e .content ≡ e′ .content
   pub severities : (e .content .severity ≡ e′ .content .severity) ⊎ ((e .content .severity ≡ w .severity) × (e′ .content .severity ≡ w .severity′))
 
 abbrev pub near : Wrong → Likeness
@@ -57,7 +58,7 @@ near w =
 
 module _ (w : Wrong) where
   same-near : (i i′ : ℕ) {a a′ : Alarm} → a ≡ a′ → NearAt w (entry i a) (entry i′ a′)
-  same-near i i′ p = record { alike = ap unrated p; same = λ n. p; severities = inl (ap (λ (a : Alarm). a .severity) p) }
+  same-near i i′ p = record { alike = ap withoutSeverity p; same = λ n. p; severities = inl (ap (λ (a : Alarm). a .severity) p) }
 
   pub near-lasts : Lasting (near w)
   unfolding updatedBy actedOn
@@ -66,11 +67,11 @@ module _ (w : Wrong) where
     ids = λ h. ap (λ (a : Alarm). a .id) (h .alike);
     times = λ h. ap (λ (a : Alarm). a .updatedAt) (h .alike);
     updates = λ r h. record {
-      alike = ap₂ (λ (x : RaiseValue) (a : Alarm). unrated (updatedBy x a)) r (h .alike);
+      alike = ap₂ (λ (x : RaiseValue) (a : Alarm). withoutSeverity (updatedBy x a)) r (h .alike);
       same = λ n. ap₂ updatedBy r (h .same n);
       severities = inl (ap (λ (x : RaiseValue). x .head .severity) r);
     };
-    acts = λ x t h. record { alike = ap (λ (a : Alarm). unrated (actedOn x t a)) (h .alike); same = λ n. ap (actedOn x t) (h .same n); severities = h .severities };
+    acts = λ x t h. record { alike = ap (λ (a : Alarm). withoutSeverity (actedOn x t a)) (h .alike); same = λ n. ap (actedOn x t) (h .same n); severities = h .severities };
     news = λ i h r. ap (λ (c : RaiseValue). newAlarm c i) r;
     clears = λ t h. tt;
     expires = λ t h. tt;
@@ -99,8 +100,8 @@ module _ (w : Wrong) where
 
 -- ---- how many active alarms have a severity
 
-abbrev pub rated : ℕ → List (Entry Alarm) → ℕ
-rated u c = length (those (hasSeverity u) (contents c))
+abbrev pub severityCount : ℕ → List (Entry Alarm) → ℕ
+severityCount u c = length (those (hasSeverity u) (contents c))
 
 -- one more, or not
 abbrev hit : ℕ → Alarm → ℕ
@@ -113,37 +114,37 @@ hit-most u a = go (hasSeverity u a)
     go true = omega arith
     go false = omega arith
 
-rated-cons : (u : ℕ) (e : Entry Alarm) (c : List (Entry Alarm)) → rated u (e ∷ c) ≡ hit u (e .content) + rated u c
+count-cons : (u : ℕ) (e : Entry Alarm) (c : List (Entry Alarm)) → severityCount u (e ∷ c) ≡ hit u (e .content) + severityCount u c
 unfolding those
-rated-cons u e c = go (hasSeverity u (e .content))
+count-cons u e c = go (hasSeverity u (e .content))
   where
-    go : (b : Bool) → length (cond b (e .content ∷ those (hasSeverity u) (contents c)) (those (hasSeverity u) (contents c))) ≡ cond b 1 0 + rated u c
+    go : (b : Bool) → length (cond b (e .content ∷ those (hasSeverity u) (contents c)) (those (hasSeverity u) (contents c))) ≡ cond b 1 0 + severityCount u c
     go true = omega arith
     go false = omega arith
 
 module _ (w : Wrong) where
   -- where record j is not on the chain, no count differs
-  without-apart : (u : ℕ) (c c′ : List (Entry Alarm)) → AtEach (NearAt w) c c′ → times (w .place) c ≡ 0 → rated u c ≡ rated u c′
+  without-apart : (u : ℕ) (c c′ : List (Entry Alarm)) → AtEach (NearAt w) c c′ → times (w .index) c ≡ 0 → severityCount u c ≡ severityCount u c′
   without-apart u [] [] h z = refl
   without-apart u [] (e ∷ c) h z = absurd h
   without-apart u (e ∷ c) [] h z = absurd h
   without-apart u (e ∷ c) (e′ ∷ c′) h z =
-      let p = ap (hit u) (h .0 .same (λ p. omega (arith, times-hit e c (w .place) p))) in
-      let q = without-apart u c c′ (h .1) (omega (arith, times-cons e c (w .place))) in
-      omega (arith, p, q, rated-cons u e c, rated-cons u e′ c′)
+      let p = ap (hit u) (h .0 .same (λ p. omega (arith, times-hit e c (w .index) p))) in
+      let q = without-apart u c c′ (h .1) (omega (arith, times-cons e c (w .index))) in
+      omega (arith, p, q, count-cons u e c, count-cons u e′ c′)
 
-  pub near-counts : (u : ℕ) (c c′ : List (Entry Alarm)) → Distinct c → AtEach (NearAt w) c c′ → WithinOne (rated u c) (rated u c′)
+  pub near-counts : (u : ℕ) (c c′ : List (Entry Alarm)) → Distinct c → AtEach (NearAt w) c c′ → WithinOne (severityCount u c) (severityCount u c′)
   near-counts u [] [] d h = record { above = omega arith; below = omega arith }
   near-counts u [] (e ∷ c) d h = absurd h
   near-counts u (e ∷ c) [] d h = absurd h
-  near-counts u (e ∷ c) (e′ ∷ c′) d h = elim (ℕ-discrete (e .index) (w .place)) [
-    | yes p ↦ (let q = without-apart u c c′ (h .1) (omega (arith, d (w .place), times-hit e c (w .place) p)) in
+  near-counts u (e ∷ c) (e′ ∷ c′) d h = elim (ℕ-discrete (e .index) (w .index)) [
+    | yes p ↦ (let q = without-apart u c c′ (h .1) (omega (arith, d (w .index), times-hit e c (w .index) p)) in
         let x = hit-most u (e .content) in
         let y = hit-most u (e′ .content) in
-        record { above = omega (arith, q, x, y, rated-cons u e c, rated-cons u e′ c′); below = omega (arith, q, x, y, rated-cons u e c, rated-cons u e′ c′) })
+        record { above = omega (arith, q, x, y, count-cons u e c, count-cons u e′ c′); below = omega (arith, q, x, y, count-cons u e c, count-cons u e′ c′) })
     | no n ↦ (let r = near-counts u c c′ (λ i. omega (arith, d i, times-cons e c i)) (h .1) in
         let q = ap (hit u) (h .0 .same n) in
-        record { above = omega (arith, q, r .above, rated-cons u e c, rated-cons u e′ c′); below = omega (arith, q, r .below, rated-cons u e c, rated-cons u e′ c′) })
+        record { above = omega (arith, q, r .above, count-cons u e c, count-cons u e′ c′); below = omega (arith, q, r .below, count-cons u e c, count-cons u e′ c′) })
   ]
 
   -- other severities than the two
@@ -152,8 +153,8 @@ module _ (w : Wrong) where
     other-hit a a′ (inl p) = ap (λ (x : ℕ). cond (eqb u 255 || eqb u x) 1 0) p
     other-hit a a′ (inr (p, p′)) = rw (p, p′, ne-eqb u (w .severity) n, ne-eqb u (w .severity′) n′)
 
-    pub near-others : (c c′ : List (Entry Alarm)) → AtEach (NearAt w) c c′ → rated u c ≡ rated u c′
+    pub near-others : (c c′ : List (Entry Alarm)) → AtEach (NearAt w) c c′ → severityCount u c ≡ severityCount u c′
     near-others [] [] h = refl
     near-others [] (e ∷ c) h = absurd h
     near-others (e ∷ c) [] h = absurd h
-    near-others (e ∷ c) (e′ ∷ c′) h = omega (arith, other-hit (e .content) (e′ .content) (h .0 .severities), near-others c c′ (h .1), rated-cons u e c, rated-cons u e′ c′)
+    near-others (e ∷ c) (e′ ∷ c′) h = omega (arith, other-hit (e .content) (e′ .content) (h .0 .severities), near-others c c′ (h .1), count-cons u e c, count-cons u e′ c′)

@@ -32,20 +32,20 @@ use Rattle.definition.specs.Laws.Steps.SideBySide.{Both, both, neither, 
 use Rattle.definition.specs.Laws.Steps.Alike.{On, Told, go-on, pick, add-active-at}
 use Rattle.definition.specs.Laws.Steps.AlikeSteps.{settled, told, change-like, raise-like, clear-like, plain-like, expire-like, inRecord-like}
 use Rattle.definition.specs.Laws.Twins.KeptLegal.{stationAfter}
-use Rattle.definition.specs.Laws.Twins.NearStations.{Wrong, wrong, unrated, NearAt, near, near-lasts, near-self, alone}
+use Rattle.definition.specs.Laws.Twins.NearStations.{Wrong, wrong, withoutSeverity, NearAt, near, near-lasts, near-self, alone}
 
 -- ---- the raise whose severity is another
 
 -- the raise with another severity
-abbrev pub ratedRaise : ℕ → RaiseValue → RaiseValue
-ratedRaise v c =
+abbrev pub raiseWith : ℕ → RaiseValue → RaiseValue
+raiseWith v c =
     record { head = record { time = c .head .time; id = c .head .id; type = c .head .type; severity = v }; key = c .key; text = c .text; details = c .details }
 
 -- near, but for some alarm whose severities are v and v′
 abbrev pub NearBut : ℕ → ℕ → Station → Station → Type 0
 NearBut v v′ s t = (j : ℕ) × On (near (wrong v v′ j)) (length (s .active)) [] [] s t
 
-module _ (s : Station) (l : LegalStation s) (c : RaiseValue) (v′ : ℕ) (f : LegalRaise c) (f′ : LegalRaise (ratedRaise v′ c)) where
+module _ (s : Station) (l : LegalStation s) (c : RaiseValue) (v′ : ℕ) (f : LegalRaise c) (f′ : LegalRaise (raiseWith v′ c)) where
   -- record j has the alarm that is raised
   abbrev raisedAt : ℕ → Wrong
   raisedAt j = wrong (c .head .severity) v′ j
@@ -53,42 +53,42 @@ module _ (s : Station) (l : LegalStation s) (c : RaiseValue) (v′ : ℕ) (f : L
   abbrev Apart : Answer → Answer → Station → Station → Type 0
   Apart = Only (NearBut (c .head .severity) v′)
 
-  apart-at : (j : ℕ) (a a′ : Alarm) → a .severity ≡ c .head .severity → a′ .severity ≡ v′ → unrated a ≡ unrated a′ → NearAt (raisedAt j) (entry j a) (entry j a′)
+  apart-at : (j : ℕ) (a a′ : Alarm) → a .severity ≡ c .head .severity → a′ .severity ≡ v′ → withoutSeverity a ≡ withoutSeverity a′ → NearAt (raisedAt j) (entry j a) (entry j a′)
   apart-at j a a′ p p′ h = record { alike = h; same = λ n. absurd (n refl); severities = inr (p, p′) }
 
-  store-apart : (k : Bytes) → length k ≡ 16 → length (s .active) < s .limitA → Both Apart (store (newAlarm c k) s) (store (newAlarm (ratedRaise v′ c) k) s)
+  store-apart : (k : Bytes) → length k ≡ 16 → length (s .active) < s .limitA → Both Apart (store (newAlarm c k) s) (store (newAlarm (raiseWith v′ c) k) s)
   unfolding store newAlarm _>>=_
   store-apart k h room =
       let w = raisedAt (nextFree s) in
       let g = new-legal c k f h in
-      let g′ = new-legal (ratedRaise v′ c) k f′ h in
+      let g′ = new-legal (raiseWith v′ c) k f′ h in
       after-both _ _ (λ x y. then-related (near-lasts w .files tt (past _ g, past _ g′)) (give-related (λ t u p. (nextFree s, settled (near-lasts w) p))))
       (add-active-at (near-lasts w) s s (alone w s l, room) (g, g′) (apart-at (nextFree s) _ _ refl refl refl))
 
-  raise-apart : Both Apart (raise c s) (raise (ratedRaise v′ c) s)
+  raise-apart : Both Apart (raise c s) (raise (raiseWith v′ c) s)
   unfolding raise raiseAt storeNew newAlarm updatedBy _>>=_
   raise-apart = go (first (hasKey k) (s .active)) (first-each (NearAt (raisedAt 0)) (hasKey k) (λ e e′ h. ap (λ (a : Alarm). hasKey k a) (h .alike)) (s .active) (s .active) (near-self (raisedAt 0) (s .active)))
     where
       k : Bytes
       k = keyOf (c .head .type) (c .key)
 
-      taken : (b : Bool) → length (s .active) < s .limitA → Both Apart (cond b (refuse 31) (store (newAlarm c k)) s) (cond b (refuse 31) (store (newAlarm (ratedRaise v′ c) k)) s)
+      taken : (b : Bool) → length (s .active) < s .limitA → Both Apart (cond b (refuse 31) (store (newAlarm c k)) s) (cond b (refuse 31) (store (newAlarm (raiseWith v′ c) k)) s)
       taken true room = neither {n = 31} tt
       taken false room = store-apart k (length-key _ _) room
 
       full : (b : Bool) → leb (s .limitA) (length (s .active)) ≡ b →
-          Both Apart (cond b (limitExceeded k) (storeNew (newAlarm c k)) s) (cond b (limitExceeded k) (storeNew (newAlarm (ratedRaise v′ c) k)) s)
+          Both Apart (cond b (limitExceeded k) (storeNew (newAlarm c k)) s) (cond b (limitExceeded k) (storeNew (newAlarm (raiseWith v′ c) k)) s)
       full true h = both (0, alone (raisedAt 0) s l)
       full false h = taken (present (first (hasId (c .head .id)) (s .active))) (leb-false (s .limitA) (length (s .active)) h)
 
-      go : (o : Option (Entry Alarm)) → Search (NearAt (raisedAt 0)) (s .active) (s .active) o o → Both Apart (raiseAt c k o s) (raiseAt (ratedRaise v′ c) k o s)
+      go : (o : Option (Entry Alarm)) → Search (NearAt (raisedAt 0)) (s .active) (s .active) o o → Both Apart (raiseAt c k o s) (raiseAt (raiseWith v′ c) k o s)
       go none p = full (leb (s .limitA) (length (s .active))) refl
       go (some e) (found h q) =
           let j = e .index in
           let w = raisedAt j in
           let g = picked-holds _ q (l .fields .active) (l .fields .active) in
           post-related {Q′ = Apart} (λ x y t u p. (j, p .on))
-          (change-like (near-lasts w) Updated (apart-at j _ _ refl refl refl) (updated-legal c (e .content) f (g .0), updated-legal (ratedRaise v′ c) (e .content) f′ (g .1)) tt refl)
+          (change-like (near-lasts w) Updated (apart-at j _ _ refl refl refl) (updated-legal c (e .content) f (g .0), updated-legal (raiseWith v′ c) (e .content) f′ (g .1)) tt refl)
           .from s s (pick (near-lasts w) (alone w s l) q)
 
 -- ---- one call on each
@@ -154,8 +154,8 @@ near-call w (CallValue.takeAudit i) n s t h q p = settled (near-lasts w) (go-on 
 near-call w (CallValue.refused k) n s t h q p = settled (near-lasts w) p
 
 -- the raise with the severity v, and the same with v′, on one station
-pub call-apart : (s : Station) → LegalStation s → (c : RaiseValue) (v′ n : ℕ) → LegalRaise c → LegalRaise (ratedRaise v′ c) →
-    NearBut (c .head .severity) v′ (stationAfter s (perform (CallValue.raise c) n s)) (stationAfter s (perform (CallValue.raise (ratedRaise v′ c)) n s))
+pub call-apart : (s : Station) → LegalStation s → (c : RaiseValue) (v′ n : ℕ) → LegalRaise c → LegalRaise (raiseWith v′ c) →
+    NearBut (c .head .severity) v′ (stationAfter s (perform (CallValue.raise c) n s)) (stationAfter s (perform (CallValue.raise (raiseWith v′ c)) n s))
 unfolding perform
 call-apart s l c v′ n f f′ =
     go (inRecord-like (near-lasts (wrong (c .head .severity) v′ 0)) n

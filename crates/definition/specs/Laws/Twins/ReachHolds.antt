@@ -30,7 +30,7 @@ use Rattle.definition.specs.Laws.Steps.SoundChains.{active-encoded}
 use Rattle.definition.specs.Laws.Steps.PairedChains.{distinct, length-each}
 use Rattle.definition.specs.Laws.Twins.KeptLegal.{perform-kept, stationAfter, legal-after, register-after, sound-kept, kept-sound}
 use Rattle.definition.specs.Laws.Twins.ClaimHolds.{opened-fresh, made-reply, AlikeRegisters}
-use Rattle.definition.specs.Laws.Twins.NearStations.{Wrong, wrong, NearAt, near, alone, near-counts, near-others, rated}
+use Rattle.definition.specs.Laws.Twins.NearStations.{Wrong, wrong, NearAt, near, alone, near-counts, near-others, severityCount}
 use Rattle.definition.specs.Laws.Twins.NearSteps.{NearBut, near-call, call-apart}
 use Rattle.definition.specs.Laws.Twins.ReadApart.{ReadApart, alike, raises, apart-read}
 
@@ -46,8 +46,8 @@ self-near w b h =
     record { one = station b; two = station b; on = alone w (station b) (p .legal); is-one = sym (p .bytes); is-two = sym (p .bytes) }
 
 -- how many active alarms a legal station's bytes hold of a severity
-count-encoded : (u : ℕ) (b : Bytes) (s : Station) → LegalStation s → b ≡ encode s → activeCount u b ≡ rated u (s .active)
-count-encoded u b s l e = ap (λ (t : Station). rated u (t .active)) (ap station e ∙ legal-reads s l)
+count-encoded : (u : ℕ) (b : Bytes) (s : Station) → LegalStation s → b ≡ encode s → activeCount u b ≡ severityCount u (s .active)
+count-encoded u b s l e = ap (λ (t : Station). severityCount u (t .active)) (ap station e ∙ legal-reads s l)
 
 length-encoded : (b : Bytes) (s : Station) → LegalStation s → b ≡ encode s → activeLength b ≡ length (s .active)
 length-encoded b s l e = ap activeLength e ∙ active-encoded s l

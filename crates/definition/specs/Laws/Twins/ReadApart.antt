@@ -14,12 +14,12 @@ use Rattle.definition.specs.Reader.{Out, got, bad, Reader, next, _>>=_, 
 use Rattle.definition.specs.Parse.{raiseHead, key, raiseBody, named, raiseFields, fieldsOf, whole, parseCall}
 use Rattle.definition.specs.Reach.{beforeSeverity, SeverityApart}
 use Rattle.definition.specs.Laws.Twins.ReadTwins.{next-assoc, Local, give-local, bind-local, number-local, text-local, elsewhere}
-use Rattle.definition.specs.Laws.Twins.NearSteps.{ratedRaise}
+use Rattle.definition.specs.Laws.Twins.NearSteps.{raiseWith}
 
 -- the same call, or a raise of severity v and the same with v′
 pub data ReadApart (v v′ : ℕ) : CallValue → CallValue → Type 0 where
   alike : (c : CallValue) → ReadApart v v′ c c
-  raises : (c : RaiseValue) → c .head .severity ≡ v → ReadApart v v′ (CallValue.raise c) (CallValue.raise (ratedRaise v′ c))
+  raises : (c : RaiseValue) → c .head .severity ≡ v → ReadApart v v′ (CallValue.raise c) (CallValue.raise (raiseWith v′ c))
 
 before-local : Local beforeSeverity
 unfolding beforeSeverity
@@ -69,7 +69,7 @@ asRaise o = whole (next o (λ r. give (CallValue.raise r)))
 
 module _ (v v′ : ℕ) where
   abbrev RaisesApart : RaiseValue → RaiseValue → Type 0
-  RaisesApart c c′ = (c .head .severity ≡ v) × (c′ ≡ ratedRaise v′ c)
+  RaisesApart c c′ = (c .head .severity ≡ v) × (c′ ≡ raiseWith v′ c)
 
   behind-apart : (f : ℕ × Bytes × Bytes) (u : Bytes) → BothRead RaisesApart (behind (headWith f v) u) (behind (headWith f v′) u)
   unfolding raiseBody _>>=_
