@@ -1,6 +1,6 @@
 -- Two legal stations that are alike, and moves that keep them so, whatever "alike" is. What it is stands in a `Likeness`, and what a likeness
 -- must meet in its `Lasting`. Each law says besides that both stations stay legal, and that both are refused with the same number of the table.
--- For the laws of steps (AlikeSteps) and of twins.
+-- For the laws of steps (AlikeSteps), of twins and of stations that are near.
 use Prim.Native.Nat.{ℕ, suc, _+_, _<_}
 use mathlib.Core.Path.{_≡_, sym, ap, _∙_}
 use mathlib.Core.List.{List, [], _∷_}

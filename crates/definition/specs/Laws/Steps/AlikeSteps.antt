@@ -1,5 +1,6 @@
 -- Steps on two stations that are alike: one law for each step. Each says that both stations stay legal and alike, that a call is refused on
--- both with the same number of the table, and that the active length moves by what is answered. For the laws of calls on twins (TwinSteps).
+-- both with the same number of the table, and that the active length moves by what is answered. For the laws of calls on twins
+-- (TwinSteps) and on stations that are near (NearSteps).
 use Prim.Native.Nat.{ℕ, zero, suc, _+_}
 use mathlib.Core.Path.{_≡_, refl, ap, _∙_, subst}
 use mathlib.Core.List.{List, [], _∷_}

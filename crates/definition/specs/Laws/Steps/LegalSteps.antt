@@ -1,5 +1,5 @@
 -- What goes into history keeps a station legal, and the active chain as it was; and wherever a step takes a record, one is free. For the sweep
--- of `expiry`, which retires alarms, and for M-107.
+-- of `expiry`, which retires alarms, for M-107, and for the reach.
 use Prim.Native.Nat.{ℕ, _≤_, _<_}
 use mathlib.Core.Path.{_≡_, refl, _∙_}
 use mathlib.Core.List.{List, [], _∷_}

@@ -1,4 +1,5 @@
--- Demand 3's claim holds. For the theorem on whole lists in `station`; `step-legal` also for the balance and the table of the cases marked *.
+-- Demand 3's claim holds. For the theorem on whole lists in `station`; `step-legal`, `made-reply` and
+-- `AlikeRegisters` also for the balance, the reach and the table of the cases marked *.
 use Prim.Native.Nat.{ℕ, _+_, _*_}
 use mathlib.Core.Path.{_≡_, refl, sym, ap, ap₂, _∙_, subst}
 use mathlib.Core.List.{List, [], _∷_, map}

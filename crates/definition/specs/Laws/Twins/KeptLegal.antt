@@ -1,5 +1,5 @@
 -- Every call on a legal station leaves a legal station, or is refused with a number of the table; it is its own twin. So a sound register stays
--- sound. For the claim, the balance, and `station`.
+-- sound. For the claim, the balance, the reach, and `station`.
 use Prim.Native.Nat.{ℕ, _+_}
 use mathlib.Core.Path.{_≡_, refl, ap₂, subst}
 use mathlib.Core.List.{List, [], _∷_, map}

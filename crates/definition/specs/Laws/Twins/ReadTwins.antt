@@ -1,4 +1,5 @@
--- Readers are local: what they read depends on no byte after it. So twin raises are read alike but for their texts and details. For the claim.
+-- Readers are local: what they read depends on no byte after it. So twin raises are read alike but for their texts and details. For the claim, and
+-- for the reach (ReadApart).
 use Prim.Native.Nat.{ℕ}
 use mathlib.Core.Path.{_≡_, refl, sym, ap, _∙_, subst}
 use mathlib.Core.List.{[], _∷_, _++_, append-assoc, append-cancel-right}
