@@ -3,14 +3,15 @@
 use Prim.Native.Nat.{ℕ, suc, _≤_}
 use mathlib.Core.Path.{_≡_}
 use mathlib.Core.List.{List, [], _∷_, _++_, map}
-use mathlib.Core.Bool.{Bool, false, _&&_, _||_}
+use mathlib.Core.Bool.{Bool, false, not, _&&_, _||_}
 use lib.Dec.{T, eqb}
-use lib.ListN.{length}
+use lib.ListN.{length, take}
 use Rattle.octets.specs.Bytes.{Bytes}
 use Rattle.definition.specs.Limits.{shortLimit}
 use Rattle.definition.specs.Reader.{got, Reader, _>>=_, give, number, text}
 use Rattle.definition.specs.Chain.{contents, those}
 use Rattle.definition.specs.Alarm.{hasSeverity}
+use Rattle.definition.specs.Perform.{asksRecord}
 use Rattle.definition.specs.Numbers.{Among}
 use Rattle.definition.specs.Sound.{station, sound}
 use Rattle.definition.specs.Twins.{AtEach}
@@ -74,18 +75,30 @@ NoPolicy (m ∷ l) = (isPolicy (operation m) && isAnswered m ≡ false) × NoPol
 abbrev pub activeCount : ℕ → Bytes → ℕ
 activeCount u b = length (those (hasSeverity u) (contents (station b .active)))
 
+-- "differs by at most one"
 pub record WithinOne (x y : ℕ) : Type 0 where
   pub above : x ≤ suc y
   pub below : y ≤ suc x
 
--- of the registers b and b′, where the two severities are v and v′. Other severities have equal counts
+-- of two registers, where the raise has the severities v and v′: counts of other severities do not differ
 pub record Bounded (v v′ : ℕ) (b b′ : Bytes) : Type 0 where
   pub lengths : activeLength b ≡ activeLength b′
   pub counts : (u : ℕ) → WithinOne (activeCount u b) (activeCount u b′)
   pub others : (u : ℕ) → (u ≡ v → ⊥) → (u ≡ v′ → ⊥) → activeCount u b ≡ activeCount u b′
 
-abbrev pub BoundedAfter : ℕ → ℕ → Made → Made → Type 0
-BoundedAfter v v′ m m′ = Bounded v v′ (m .register) (m′ .register)
+-- operations 1 to 4, 7 and 11: those that ask for a record's room, without policy calls
+abbrev pub keepsHead : ℕ → Bool
+keepsHead op = asksRecord op && not (isPolicy op)
+
+-- "Head of 16: code, three zeros, u32 item count, u64 number"; a refusal has none
+abbrev pub answerHead : Made → Bytes
+answerHead m = take 16 (take (m .length) (m .answer))
+
+-- of two calls at the same place: besides, these operations return the same number and answer with the same head. So no count of answers
+-- by their code is spoilt, and no number of expired alarms
+pub record BoundedAfter (v v′ : ℕ) (m m′ : Made) : Type 0 where
+  pub registers : Bounded v v′ (m .register) (m′ .register)
+  pub heads : T (keepsHead (operation m)) → (m .number ≡ m′ .number) × (answerHead m ≡ answerHead m′)
 
 -- ---- the request's own premises: "ops 1 to 4 and 7 to 12 .., with answer slices long enough for every answer", so that none gives 30
 

@@ -10,5 +10,6 @@ pub mod BalanceHolds
 pub mod NearStations
 pub mod NearSteps
 pub mod ReadApart
+pub mod NearRegisters
 pub mod ReachHolds
 pub mod TwinSteps

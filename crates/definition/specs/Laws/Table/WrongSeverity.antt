@@ -106,4 +106,4 @@ policy-needed f =
       apart = raises-apart 5 3 (omega arith) (omega arith);
     } in
     let r = f 5 3 register _ _ (legal-sound (fresh 2 3 1) (fresh-legalStation 2 3 1 (omega arith) (omega arith) (omega arith))) (run-apart 5 3 (suppressed 5) (suppressed 3) register tt tt d) in
-    omega (arith, r .1 .1 .0 .lengths, ap (λ x. x .1 .0) (what-differs .policy .0), ap (λ x. x .1 .0) (what-differs .policy .1))
+    omega (arith, r .1 .1 .0 .registers .lengths, ap (λ x. x .1 .0) (what-differs .policy .0), ap (λ x. x .1 .0) (what-differs .policy .1))

@@ -20,8 +20,8 @@ use Rattle.definition.specs.Balance.{activeLength, isAnswered, raised, c
 use Rattle.definition.specs.Laws.Steps.Answers.{said, kindOf, expires-op}
 use Rattle.definition.specs.Laws.Steps.SoundStation.{sound-holds, legal-sound}
 use Rattle.definition.specs.Laws.Steps.SoundChains.{active-length, active-encoded}
-use Rattle.definition.specs.Laws.Twins.KeptLegal.{Kept, answered, refused, sound-kept, kept-sound}
-use Rattle.definition.specs.Laws.Twins.ClaimHolds.{opened-fresh, made-reply}
+use Rattle.definition.specs.Laws.Twins.KeptLegal.{Kept, answered, refused, sound-kept}
+use Rattle.definition.specs.Laws.Twins.ClaimHolds.{opened-fresh, made-reply, made-sound}
 
 -- ---- what is read of an answer's bytes is what its head says
 
@@ -84,9 +84,7 @@ module _ (b : Bytes) (m : Made) (h : T (sound b)) where
   call-even : Octets (m .call) → MadeOn b m → T (sound (m .register)) × (activeLength b + raised m ≡ activeLength (m .register) + cleared m + expired m)
   call-even o g =
       let l = sound-holds b h in
-      let k = sound-kept b (m .call) (length (m .former)) o h in
-      let r = made-reply b (station b) m (l .legal) (sym (l .bytes)) g in
-      (subst (λ (c : Bytes). T (sound c)) (sym (r .register-is)) (kept-sound b h k), kept-even k r)
+      (made-sound b m h o g, kept-even (sound-kept b (m .call) (length (m .former)) o h) (made-reply b (station b) m (l .legal) (sym (l .bytes)) g))
 
 -- ---- lists
 

@@ -5,7 +5,7 @@ use mathlib.Core.Path.{_≡_, refl, sym, ap, ap₂, _∙_, subst}
 use mathlib.Core.List.{List, [], _∷_, map}
 use mathlib.Core.Bool.{Bool, true, false, cond, _&&_}
 use native.Mathlib.Omega.{arith}
-use lib.Dec.{eqb}
+use lib.Dec.{T, eqb}
 use lib.ListN.{length, take, getD}
 use lib.Seq.{take-at}
 use Rattle.octets.specs.Bytes.{Bytes, Octets, splice}
@@ -21,9 +21,9 @@ use Rattle.definition.specs.Laws.Steps.Answers.{lists, kindOf, lists-op}
 use Rattle.definition.specs.Laws.Text.ParsedLegal.{call-legal}
 use Rattle.definition.specs.Contracts.LegalStation.{LegalStation}
 use Rattle.definition.specs.Laws.Steps.StationBook.{fresh-legalStation}
-use Rattle.definition.specs.Laws.Twins.KeptLegal.{self-twin, twin-blank, Kept, answered, refused, call-kept}
-use Rattle.definition.specs.Sound.{encode, sound}
-use Rattle.definition.specs.Laws.Steps.SoundStation.{legal-reads, legal-sound}
+use Rattle.definition.specs.Laws.Twins.KeptLegal.{self-twin, twin-blank, Kept, answered, refused, call-kept, sound-kept, kept-sound}
+use Rattle.definition.specs.Sound.{encode, station, sound}
+use Rattle.definition.specs.Laws.Steps.SoundStation.{sound-holds, legal-reads, legal-sound}
 use Rattle.definition.specs.Laws.Steps.Replies.{on-sound}
 use Rattle.definition.specs.Laws.Steps.SideBySide.{Both, both, neither}
 use Rattle.definition.specs.Laws.Steps.Alike.{Likeness, On, Told}
@@ -120,12 +120,18 @@ pub made-reply : (b : Bytes) (s : Station) (m : Made) → LegalStation s → b �
     AsReplied m (replyOf b (perform (parseCall (m .call)) (length (m .former)) s))
 made-reply b s m l e g = rw (step-legal b s (m .call) (length (m .former)) l e) at g
 
+-- a sound register stays sound
+pub made-sound : (b : Bytes) (m : Made) → T (sound b) → Octets (m .call) → MadeOn b m → T (sound (m .register))
+made-sound b m h o g =
+    let l = sound-holds b h in
+    rw (made-reply b (station b) m (l .legal) (sym (l .bytes)) g .register-is) (kept-sound b h (sound-kept b (m .call) (length (m .former)) o h))
+
 same-op : (c c′ : Bytes) → TwinCall c c′ → getD c 0 0 ≡ getD c′ 0 0
 same-op c c′ (equal p) = ap (λ (x : Bytes). getD x 0 0) p
 same-op c c′ (raises t) = ap (λ (x : Bytes). getD x 0 0) (t .is) ∙ sym (ap (λ (x : Bytes). getD x 0 0) (t .is′))
 
 -- the first bytes of a slice that an answer was written to
-take-front : (o v : Bytes) → take (length v) (splice o 0 v) ≡ v
+pub take-front : (o v : Bytes) → take (length v) (splice o 0 v) ≡ v
 unfolding splice
 take-front o v = take-at v _ (length v) refl
 

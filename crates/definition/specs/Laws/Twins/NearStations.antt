@@ -10,11 +10,12 @@ use native.Mathlib.Decide.{ℕ-discrete}
 use lib.Dec.{eqb}
 use lib.ListN.{length}
 use borrow.Author.Tests.{ne-eqb}
-use Rattle.definition.specs.Value.{RaiseValue}
+use Rattle.definition.specs.Value.{RaiseValue, Action, acknowledging, suppressing}
 use Rattle.definition.specs.Chain.{Entry, entry, contents, those, times}
 use Rattle.definition.specs.Alarm.{Alarm, withSeverity, hasSeverity}
 use Rattle.definition.specs.Station.{Station}
-use Rattle.definition.specs.Steps.{updatedBy, newAlarm, actedOn}
+use Rattle.definition.specs.Answer.{headOf}
+use Rattle.definition.specs.Steps.{updatedBy, newAlarm, actionAnswer, actedOn}
 use Rattle.definition.specs.Twins.{AtEach}
 use Rattle.definition.specs.Reach.{WithinOne}
 use Rattle.definition.specs.Contracts.LegalStation.{LegalStation}
@@ -52,9 +53,13 @@ near w =
       New = λ a a′. a ≡ a′;
       Past = λ a a′. Unit {0};
       Rest = λ s t. Unit {0};
-      Says = λ x y. Unit {0};
+      Says = λ x y. headOf x ≡ headOf y;
       Raise = λ c c′. c ≡ c′;
     }
+
+acted-head : (x : Action) (a a′ : Alarm) → headOf (actionAnswer x a) ≡ headOf (actionAnswer x a′)
+acted-head acknowledging a a′ = refl
+acted-head suppressing a a′ = refl
 
 module _ (w : Wrong) where
   same-near : (i i′ : ℕ) {a a′ : Alarm} → a ≡ a′ → NearAt w (entry i a) (entry i′ a′)
@@ -84,10 +89,10 @@ module _ (w : Wrong) where
     files = λ {a} {a′} u g. record {
       from = λ s t p. both-ends (intoHistory-legal s (p .legal) a (g .0)) (intoHistory-legal t (p .legal′) a′ (g .1)) (λ x y s′ t′ q r. go-on p q r tt);
     };
-    saysSame = λ x. tt;
-    saysRaised = λ h. tt;
-    saysUpdated = λ h. tt;
-    saysActed = λ x h. tt;
+    saysSame = λ x. refl;
+    saysRaised = λ h. refl;
+    saysUpdated = λ h. refl;
+    saysActed = λ x h. acted-head x _ _;
   }
 
   -- a station is near itself

@@ -16,19 +16,19 @@ use Rattle.definition.specs.Key.{keyOf}
 use Rattle.definition.specs.Laws.Text.Key.{length-key}
 use Rattle.definition.specs.Chain.{Entry, entry, contents, present, first}
 use Rattle.definition.specs.Alarm.{Alarm, hasKey, hasId}
-use Rattle.definition.specs.Station.{Station, Outcome, Step, after, _>>=_, give, refuse, look, nextFree}
-use Rattle.definition.specs.Answer.{Answer, Updated, Events, answerBytes}
+use Rattle.definition.specs.Station.{Station, Outcome, done, stopped, Step, after, _>>=_, give, refuse, look, nextFree}
+use Rattle.definition.specs.Answer.{Answer, Updated, Events, head, headOf, answerBytes}
 use Rattle.definition.specs.Steps.{updatedBy, newAlarm, store, storeNew, limitExceeded, raiseAt, raise}
 use Rattle.definition.specs.Reports.{activeList, historyList, counts, summary, takeAudit}
 use Rattle.definition.specs.Perform.{inRecord, inLength, perform}
-use Rattle.definition.specs.Reach.{isPolicy}
+use Rattle.definition.specs.Reach.{isPolicy, keepsHead}
 use Rattle.definition.specs.Contracts.LegalFields.{LegalRaise, LegalCall}
 use Rattle.definition.specs.Contracts.LegalStation.{LegalStation}
 use Rattle.definition.specs.Laws.Steps.ChangedLegal.{past, updated-legal, new-legal}
 use Rattle.definition.specs.Laws.Steps.LegalMoves.{Ends, ok, Aside}
 use Rattle.definition.specs.Laws.Steps.LegalSteps.{frees-legal}
-use Rattle.definition.specs.Laws.Steps.PairedChains.{Search, found, first-each, picked-holds}
-use Rattle.definition.specs.Laws.Steps.SideBySide.{Both, both, neither, Related, Only, post-related, after-both, then-related, give-related, look-related}
+use Rattle.definition.specs.Laws.Steps.PairedChains.{Search, found, first-each, picked-holds, length-each}
+use Rattle.definition.specs.Laws.Steps.SideBySide.{Both, both, neither, Related, post-related, after-both, then-related, give-related, look-related}
 use Rattle.definition.specs.Laws.Steps.Alike.{On, Told, go-on, pick, add-active-at}
 use Rattle.definition.specs.Laws.Steps.AlikeSteps.{settled, told, change-like, raise-like, clear-like, plain-like, expire-like, inRecord-like}
 use Rattle.definition.specs.Laws.Twins.KeptLegal.{stationAfter}
@@ -51,7 +51,7 @@ module _ (s : Station) (l : LegalStation s) (c : RaiseValue) (v′ : ℕ) (f : L
   raisedAt j = wrong (c .head .severity) v′ j
 
   abbrev Apart : Answer → Answer → Station → Station → Type 0
-  Apart = Only (NearBut (c .head .severity) v′)
+  Apart x y s t = (headOf x ≡ headOf y) × NearBut (c .head .severity) v′ s t
 
   apart-at : (j : ℕ) (a a′ : Alarm) → a .severity ≡ c .head .severity → a′ .severity ≡ v′ → withoutSeverity a ≡ withoutSeverity a′ → NearAt (raisedAt j) (entry j a) (entry j a′)
   apart-at j a a′ p p′ h = record { alike = h; same = λ n. absurd (n refl); severities = inr (p, p′) }
@@ -62,7 +62,7 @@ module _ (s : Station) (l : LegalStation s) (c : RaiseValue) (v′ : ℕ) (f : L
       let w = raisedAt (nextFree s) in
       let g = new-legal c k f h in
       let g′ = new-legal (raiseWith v′ c) k f′ h in
-      after-both _ _ (λ x y. then-related (near-lasts w .files tt (past _ g, past _ g′)) (give-related (λ t u p. (nextFree s, settled (near-lasts w) p))))
+      after-both _ _ (λ x y. then-related (near-lasts w .files tt (past _ g, past _ g′)) (give-related (λ t u p. (refl, (nextFree s, settled (near-lasts w) p)))))
       (add-active-at (near-lasts w) s s (alone w s l, room) (g, g′) (apart-at (nextFree s) _ _ refl refl refl))
 
   raise-apart : Both Apart (raise c s) (raise (raiseWith v′ c) s)
@@ -78,7 +78,7 @@ module _ (s : Station) (l : LegalStation s) (c : RaiseValue) (v′ : ℕ) (f : L
 
       full : (b : Bool) → leb (s .limitA) (length (s .active)) ≡ b →
           Both Apart (cond b (limitExceeded k) (storeNew (newAlarm c k)) s) (cond b (limitExceeded k) (storeNew (newAlarm (raiseWith v′ c) k)) s)
-      full true h = both (0, alone (raisedAt 0) s l)
+      full true h = both (refl, (0, alone (raisedAt 0) s l))
       full false h = taken (present (first (hasId (c .head .id)) (s .active))) (leb-false (s .limitA) (length (s .active)) h)
 
       go : (o : Option (Entry Alarm)) → Search (NearAt (raisedAt 0)) (s .active) (s .active) o o → Both Apart (raiseAt c k o s) (raiseAt (raiseWith v′ c) k o s)
@@ -87,24 +87,37 @@ module _ (s : Station) (l : LegalStation s) (c : RaiseValue) (v′ : ℕ) (f : L
           let j = e .index in
           let w = raisedAt j in
           let g = picked-holds _ q (l .fields .active) (l .fields .active) in
-          post-related {Q′ = Apart} (λ x y t u p. (j, p .on))
-          (change-like (near-lasts w) Updated (apart-at j _ _ refl refl refl) (updated-legal c (e .content) f (g .0), updated-legal (raiseWith v′ c) (e .content) f′ (g .1)) tt refl)
+          post-related {Q′ = Apart} (λ x y t u p. (p .says, (j, p .on)))
+          (change-like (near-lasts w) Updated (apart-at j _ _ refl refl refl) (updated-legal c (e .content) f (g .0), updated-legal (raiseWith v′ c) (e .content) f′ (g .1)) refl refl)
           .from s s (pick (near-lasts w) (alone w s l) q)
 
 -- ---- one call on each
 
--- what two outcomes leave
-abbrev NearAfter : Wrong → Station → Station → Outcome Answer → Outcome Answer → Type 0
-NearAfter w s t o o′ = On (near w) (length (stationAfter s o .active)) [] [] (stationAfter s o) (stationAfter t o′)
+-- both are refused with the same number, or answered with the same head
+abbrev pub SameHeads : Outcome Answer → Outcome Answer → Type 0
+SameHeads (done x s) (done y t) = headOf x ≡ headOf y
+SameHeads (done x s) (stopped n) = ⊥
+SameHeads (stopped n) (done x s) = ⊥
+SameHeads (stopped n) (stopped m) = n ≡ m
+
+-- what the outcomes of a call of operation op leave, and what they tell
+pub record NearAfter (w : Wrong) (s t : Station) (op : ℕ) (o o′ : Outcome Answer) : Type 0 where
+  pub on : On (near w) (length (stationAfter s o .active)) [] [] (stationAfter s o) (stationAfter t o′)
+  pub heads : T (keepsHead op) → SameHeads o o′
 
 module _ {w : Wrong} {m : ℕ} {s t : Station} (p : On (near w) m [] [] s t) where
   -- a step that is done on both or on neither
-  in-record : {i : ℕ} (n : ℕ) {step : Step Answer} → Related (On (near w) m [] []) (Told (near w) i m) step step → NearAfter w s t (inRecord n step s) (inRecord n step t)
-  in-record {i} n x = go (inRecord-like (near-lasts w) n x .from s t p)
+  in-record : {i : ℕ} (op n : ℕ) {step : Step Answer} → Related (On (near w) m [] []) (Told (near w) i m) step step → NearAfter w s t op (inRecord n step s) (inRecord n step t)
+  in-record {i} op n x = go (inRecord-like (near-lasts w) n x .from s t p)
     where
-      go : {o o′ : Outcome Answer} → Both (Told (near w) i m) o o′ → NearAfter w s t o o′
-      go (both q) = q .on
-      go (neither k) = settled (near-lasts w) p
+      go : {o o′ : Outcome Answer} → Both (Told (near w) i m) o o′ → NearAfter w s t op o o′
+      go (both q) = record { on = q .on; heads = λ h. q .says }
+      go (neither k) = record { on = settled (near-lasts w) p; heads = λ h. refl }
+
+-- the same of the raise whose severity is another
+pub record ApartAfter (v v′ : ℕ) (s : Station) (o o′ : Outcome Answer) : Type 0 where
+  pub on : NearBut v v′ (stationAfter s o) (stationAfter s o′)
+  pub heads : SameHeads o o′
 
 -- a look leaves the station, answered or not
 looked : (n : ℕ) (f : Station → Answer) (s : Station) → stationAfter s (inLength n (look f) s) ≡ s
@@ -132,35 +145,35 @@ audited n i s l = go (frees-legal (take i (s .audit)) s l)
 
 summary-near : (w : Wrong) {n : ℕ} → Related (On (near w) n [] []) (Told (near w) 0 n) summary summary
 unfolding summary
-summary-near w = look-related (λ s t p. told (near-lasts w) tt refl (omega arith) s t p)
+summary-near w = look-related (λ s t p. told (near-lasts w) (ap (head 11 0) (length-each (NearAt w) (s .active) (t .active) (p .pairs))) refl (omega arith) s t p)
 
 -- a call c with an answer slice of n bytes; a policy call changes neither station
 pub near-call : (w : Wrong) {m : ℕ} (c : CallValue) (n : ℕ) (s t : Station) → LegalCall c →
     (T (isPolicy (opOf c)) → (stationAfter s (perform c n s) ≡ s) × (stationAfter t (perform c n t) ≡ t)) → On (near w) m [] [] s t →
-    NearAfter w s t (perform c n s) (perform c n t)
+    NearAfter w s t (opOf c) (perform c n s) (perform c n t)
 unfolding perform inLength _>>=_ activeList historyList counts
-near-call w (CallValue.raise c) n s t h q p = in-record p n (raise-like (near-lasts w) {c = c} {w = c .text} {d = c .details} refl h h)
-near-call w (CallValue.clear c) n s t h q p = in-record p n (clear-like (near-lasts w) c h)
-near-call w (CallValue.plain acknowledging v) n s t h q p = in-record p n (plain-like (near-lasts w) acknowledging v h)
-near-call w (CallValue.plain suppressing v) n s t h q p = in-record p n (plain-like (near-lasts w) suppressing v h)
-near-call w (CallValue.policy acknowledging v) n s t h q p = rw (q tt .0, q tt .1) (settled (near-lasts w) p)
-near-call w (CallValue.policy suppressing v) n s t h q p = rw (q tt .0, q tt .1) (settled (near-lasts w) p)
-near-call w (CallValue.expire u) n s t h q p = in-record p n (expire-like (near-lasts w) u h)
-near-call w (CallValue.active v) n s t h q p = rw (looked n _ s, looked n _ t) (settled (near-lasts w) p)
-near-call w (CallValue.history u v) n s t h q p = rw (looked n _ s, looked n _ t) (settled (near-lasts w) p)
-near-call w CallValue.counts n s t h q p = rw (looked n _ s, looked n _ t) (settled (near-lasts w) p)
-near-call w CallValue.summary n s t h q p = in-record p n (summary-near w)
-near-call w (CallValue.takeAudit i) n s t h q p = settled (near-lasts w) (go-on p (audited n i s (p .legal)) (audited n i t (p .legal′)) tt)
-near-call w (CallValue.refused k) n s t h q p = settled (near-lasts w) p
+near-call w (CallValue.raise c) n s t h q p = in-record p _ n (raise-like (near-lasts w) {c = c} {w = c .text} {d = c .details} refl h h)
+near-call w (CallValue.clear c) n s t h q p = in-record p _ n (clear-like (near-lasts w) c h)
+near-call w (CallValue.plain acknowledging v) n s t h q p = in-record p _ n (plain-like (near-lasts w) acknowledging v h)
+near-call w (CallValue.plain suppressing v) n s t h q p = in-record p _ n (plain-like (near-lasts w) suppressing v h)
+near-call w (CallValue.policy acknowledging v) n s t h q p = record { on = rw (q tt .0, q tt .1) (settled (near-lasts w) p); heads = λ h. absurd h }
+near-call w (CallValue.policy suppressing v) n s t h q p = record { on = rw (q tt .0, q tt .1) (settled (near-lasts w) p); heads = λ h. absurd h }
+near-call w (CallValue.expire u) n s t h q p = in-record p _ n (expire-like (near-lasts w) u h)
+near-call w (CallValue.active v) n s t h q p = record { on = rw (looked n _ s, looked n _ t) (settled (near-lasts w) p); heads = λ h. absurd h }
+near-call w (CallValue.history u v) n s t h q p = record { on = rw (looked n _ s, looked n _ t) (settled (near-lasts w) p); heads = λ h. absurd h }
+near-call w CallValue.counts n s t h q p = record { on = rw (looked n _ s, looked n _ t) (settled (near-lasts w) p); heads = λ h. absurd h }
+near-call w CallValue.summary n s t h q p = in-record p _ n (summary-near w)
+near-call w (CallValue.takeAudit i) n s t h q p = record { on = settled (near-lasts w) (go-on p (audited n i s (p .legal)) (audited n i t (p .legal′)) tt); heads = λ h. absurd h }
+near-call w (CallValue.refused k) n s t h q p = record { on = settled (near-lasts w) p; heads = λ h. refl }
 
 -- the raise with the severity v, and the same with v′, on one station
 pub call-apart : (s : Station) → LegalStation s → (c : RaiseValue) (v′ n : ℕ) → LegalRaise c → LegalRaise (raiseWith v′ c) →
-    NearBut (c .head .severity) v′ (stationAfter s (perform (CallValue.raise c) n s)) (stationAfter s (perform (CallValue.raise (raiseWith v′ c)) n s))
+    ApartAfter (c .head .severity) v′ s (perform (CallValue.raise c) n s) (perform (CallValue.raise (raiseWith v′ c)) n s)
 unfolding perform
 call-apart s l c v′ n f f′ =
     go (inRecord-like (near-lasts (wrong (c .head .severity) v′ 0)) n
     (record { from = λ a b (p : (a ≡ s) × (b ≡ s)). rw (p .0, p .1) (raise-apart s l c v′ f f′) }) .from s s (refl, refl))
   where
-    go : {o o′ : Outcome Answer} → Both (Only (NearBut (c .head .severity) v′)) o o′ → NearBut (c .head .severity) v′ (stationAfter s o) (stationAfter s o′)
-    go (both q) = q
-    go (neither b) = (0, alone _ s l)
+    go : {o o′ : Outcome Answer} → Both (λ x y t u. (headOf x ≡ headOf y) × NearBut (c .head .severity) v′ t u) o o′ → ApartAfter (c .head .severity) v′ s o o′
+    go (both q) = record { on = q .1; heads = q .0 }
+    go (neither b) = record { on = (0, alone _ s l); heads = refl }
