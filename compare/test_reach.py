@@ -62,7 +62,7 @@ NO_PAIRS = {
 
 
 def pairs(_root):
-    """Lists that differ in one severity are a pair, and no others are."""
+    """Lists that differ in one severity are a pair."""
     orders = [FRESH, THREE, SUMMARY, THREE]
     for severity in (0, 1, 2, 4, 5):
         found = reach.entered(orders, reach.mistaken(orders, 3, severity))
@@ -70,14 +70,18 @@ def pairs(_root):
             yield f"severity {severity}: {found}"
     if reach.entered(orders, orders) != (None, ()):
         yield "equal lists have a place"
+
+
+def no_pairs(_root):
+    """Lists that differ in anything else are none, whichever is the first."""
+    orders = [FRESH, THREE, SUMMARY, THREE]
     others = {name: [FRESH, order, SUMMARY, THREE] for name, order in NO_PAIRS.items()}
     others |= {"two severities": [FRESH, FOUR, SUMMARY, FOUR], "a call more": [*orders, SUMMARY], "a call less": orders[:-1]}
-    for name, list_ in others.items():
-        for one, other in ((orders, list_), (list_, orders)):
-            try:
-                yield f"{name}: a pair, {reach.entered(one, other)}"
-            except ValueError:
-                pass
+    for name, one, other in [(name, *sides) for name, list_ in others.items() for sides in ((orders, list_), (list_, orders))]:
+        try:
+            yield f"{name}: a pair, {reach.entered(one, other)}"
+        except ValueError:
+            pass
 
 
 # ---- made-up outcomes of the second list
@@ -103,13 +107,13 @@ def with_severity(chain, index, severity):
     return change
 
 
-def cut(register):
+def without_last(register):
     """The active chain without its last alarm, and its length as it was."""
     before_last = sound_chains(register)[0][-2]
     register[WIDTH * before_last:WIDTH * before_last + 4] = bytes(4)
 
 
-def shortened_twice(register):
+def without_first_two(register):
     put_number(register, "active_head", sound_chains(register)[0][2])
 
 
@@ -123,8 +127,8 @@ WRONG = {
     "a third severity's alarm entered as one of the two": (with_severity(0, 1, 3), "1 and 0 active alarms of severity 2; entered were (3, 4)"),
     "the wrong severity healed": (with_severity(0, 2, 3), None),
     "an alarm of history": (with_severity(1, 0, 5), None),
-    "a chain without its first two": (shortened_twice, "1 and 0 active alarms of severity 2; entered were (3, 4)"),
-    "a chain without its last": (cut, "3 and 1 active alarms of severity 3; entered were (3, 4)"),
+    "a chain without its first two": (without_first_two, "1 and 0 active alarms of severity 2; entered were (3, 4)"),
+    "a chain without its last": (without_last, "3 and 1 active alarms of severity 3; entered were (3, 4)"),
 }
 
 
@@ -146,19 +150,23 @@ def wrong(_root):
             yield f"{name}: {found}, not {wanted}"
 
 
-def by_rust(_root):
-    """Faults of the Rust's own active list."""
+def rust_fault(severities):
+    """What is found where the Rust's active list has these severities after the last call of the second list, and true ones in the first."""
     orders = [FRESH, *ACTIVE, SUMMARY]
     others = reach.mistaken(orders, 3, 4)
+    law = reach.Reach(orders, others, collections.Counter())
+    for order, one, other in zip(orders, modelled(orders), modelled(others)):
+        lists = ([3, 2, 3, 3], severities) if order == SUMMARY else ([], [])
+        found = law.fault(order, *(outcome._replace(rust=list_) for outcome, list_ in zip((one, other), lists)))
+    return found
+
+
+def by_rust(_root):
+    """Faults of the Rust's own active list."""
     for severities, text in [([3, 2, 4, 3], None), ([2, 3, 3, 4], None), ([3, 2, 3, 3], None), ([3, 2, 4], "active lengths 4 and 3"),
                              ([3, 2, 4, 4], "3 and 1 active alarms of severity 3; entered were (3, 4)"),
                              ([3, 1, 4, 3], "0 and 1 active alarms of severity 1; entered were (3, 4)")]:
-        law = reach.Reach(orders, others, collections.Counter())
-        for order, one, other in zip(orders, modelled(orders), modelled(others)):
-            last = order is orders[-1]
-            sides = [one._replace(rust=[3, 2, 3, 3] if last else []), other._replace(rust=severities if last else [])]
-            found = law.fault(order, *sides)
-        wanted = text and f"one severity by the Rust: {text}"
+        found, wanted = rust_fault(severities), text and f"one severity by the Rust: {text}"
         if found != wanted:
             yield f"{severities}: {found}, not {wanted}"
 
@@ -307,6 +315,7 @@ def tallies(_root):
 CHECKS = {
     "one severity: where it is": places,
     "one severity: pairs of lists": pairs,
+    "one severity: lists that are no pair": no_pairs,
     "one severity: faults are noticed": wrong,
     "one severity: faults of the Rust are noticed": by_rust,
     "one severity: the Rust's active list": rust_followed,
