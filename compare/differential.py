@@ -1,4 +1,5 @@
-"""A list of calls stepped by the model and, beside it, by the register and by the Rust: every byte is the same, and the list balances."""
+"""A list of calls stepped by the model and, beside it, by the register and by the Rust: every byte is the same, and the list balances.
+Where a case has a second list, the law of the two is checked as well: that of twins, or of one severity entered wrong."""
 import collections
 import json
 import subprocess
@@ -10,6 +11,7 @@ import numbering
 from balance import BY_RUST, Balance, RegisterBalance
 from orders import Counters, Given, Open, Step, results, written
 from original import Original
+from reach import Reach
 from reading import line
 from records import ROOT, alarm_of, alarm_record, put_number, unlinked
 from soundness import sound_chains
@@ -22,12 +24,13 @@ class Tools(NamedTuple):
 
 
 class Case(NamedTuple):
-    """A list of orders, and its twin if it has one."""
+    """A list of orders, and a second one if it has one: its twin, or itself with one severity entered wrong."""
     orders: list
     twin: Optional[list] = None
+    mistaken: Optional[list] = None
 
     def lists(self):
-        return [self.orders] + ([self.twin] if self.twin else [])
+        return [orders for orders in self if orders]
 
     def calls(self):
         return sum(isinstance(order, Step) for orders in self.lists() for order in orders)
@@ -38,11 +41,12 @@ class Difference(Exception):
 
 
 class Outcome(NamedTuple):
-    """What an order gives: number, length, the answer slice, the register."""
+    """What an order gives: number, length, the answer slice, the register; where the Rust follows, the severities of its active list."""
     number: int
     length: int
     answer: bytearray
     register: bytearray
+    rust: Optional[list] = None
 
 
 def modelled(orders):
@@ -105,14 +109,14 @@ class Rust:
 
     def __init__(self, path, orders, tally):
         self.lines, self.tally = iter(ran(path, orders).decode().split("\n")[:-1]), tally
-        self.original = self.balance = None
+        self.original = self.balance = self.severities = None
 
     def difference(self, order, outcome):
         found = next(self.lines, "the oracle ended")
         if isinstance(order, Step):
             return self.step_difference(order.call, outcome, found)
         if isinstance(order, Open):
-            self.original, self.balance = Original(), Balance(0, self.tally, BY_RUST)
+            self.original, self.balance, self.severities = Original(), Balance(0, self.tally, BY_RUST), []
             return None if found == ("refused 20" if outcome.number else "opened") else found
         return None
 
@@ -120,8 +124,9 @@ class Rust:
         if not found.startswith("{"):
             return None if found == f"refused {outcome.number}" else f"the Rust: {found}; here: number {outcome.number}"
         said = json.loads(found)
+        self.severities = [alarm["severity"] for alarm in said["state"]["active"]]
         self.balance.count(call[0], said["code"], said["number"])
-        fault = self.balance.fault(len(said["state"]["active"]))
+        fault = self.balance.fault(len(self.severities))
         if fault:
             return f"the Rust: {fault}"
         return self.original.difference(call, outcome.number, outcome.answer[:outcome.length], outcome.register, said)
@@ -143,15 +148,15 @@ def for_the_rust(orders):
 def outcomes(orders, tools, tally):
     """The model's outcomes, each found equal by the programs that are there: where the register is one, their balance is its own."""
     checks = [Register(tools.driver, orders).difference] if tools.driver else []
-    if tools.oracle and for_the_rust(orders):
-        checks.append(Rust(tools.oracle, orders, tally).difference)
+    rust = Rust(tools.oracle, orders, tally) if tools.oracle and for_the_rust(orders) else None
+    checks += [rust.difference] if rust else []
     checks.append(RegisterBalance(tally).fault)
     for place, (order, outcome) in enumerate(zip(orders, modelled(orders))):
         for check in checks:
             fault = check(order, outcome)
             if fault:
                 raise Difference(place, fault)
-        yield outcome
+        yield outcome._replace(rust=rust.severities) if rust else outcome
 
 
 # ---- twins
@@ -186,11 +191,20 @@ def twins_differ(order, one, other):
     return None
 
 
+# ---- a case
+
+def law(case, tally):
+    """What of the outcomes of an order breaks the law of a case's two lists; one list has none."""
+    if case.mistaken:
+        return Reach(case.orders, case.mistaken, tally).fault
+    return twins_differ if case.twin else lambda order, outcome: None
+
+
 def checked(case, tools, tally):
     """Raises Difference where a case shows one; counts what its calls gave."""
-    sides = [counted(orders, tools, tally) for orders in case.lists()]
+    sides, broken = [counted(orders, tools, tally) for orders in case.lists()], law(case, tally)
     for place, (order, *found) in enumerate(zip(case.orders, *sides)):
-        fault = twins_differ(order, *found) if case.twin else None
+        fault = broken(order, *found)
         if fault:
             raise Difference(place, fault)
 
@@ -238,7 +252,7 @@ def fault_of(case, tools):
 
 
 def without(case, start, end):
-    return Case(*(orders[:start] + orders[end:] for orders in case.lists()))
+    return Case(*(orders and orders[:start] + orders[end:] for orders in case))
 
 
 def shrunk(case, tools):
@@ -271,6 +285,6 @@ def report(case, tools):
     """A failing case, made small, as text."""
     case, (place, fault) = shrunk(case, tools)
     rows = [f"after order {place}: {fault}"]
-    for orders in case.lists():
-        rows += ["a list:" if orders is case.orders else "its twin:", *(f"  {i} {shown(order)}" for i, order in enumerate(orders))]
+    for name, orders in zip(("a list:", "its twin:", "the list with another severity:"), case):
+        rows += [name, *(f"  {i} {shown(order)}" for i, order in enumerate(orders))] if orders else []
     return "\n".join(rows)

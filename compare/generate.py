@@ -7,6 +7,7 @@ import random
 import imports  # noqa: F401  (finds the calls of tests/)
 import cases
 import model
+import reach
 from calls import call
 from orders import Counters, Given, Open, Step
 from reading import NAMES, OBJECTS, Call, Refused
@@ -50,6 +51,12 @@ def plain_values(rng, objects):
     return found | dict(id=rng.choice(IDS[:3]), type=b"t", cause=rng.choice(CAUSES[:4]), tenant=None, slice=None, region=None)
 
 
+def named_values(rng, objects):
+    """Values of which the object alone makes key and id: no raise would store an id that is active, and many update."""
+    found = plain_values(rng, objects)
+    return found | dict(id=b"%d" % objects.index(found["object"]), cause=b"lease-lost")
+
+
 def damaged_call(rng, data):
     """A call with bytes changed, put in or left out, cut, or with bytes left over."""
     way = rng.randrange(4)
@@ -73,10 +80,10 @@ def room(rng, most):
     return rng.choice([0, 15, 16, 34, 1551, 1552, 1553, edge, edge - 1, edge + 1, rng.randrange(4000)])
 
 
-def steps(rng, count, most):
-    """Steps by chance, most of them with so much room for the answer."""
+def steps(rng, count, most, ways=(plain_values, plain_values, values)):
+    """Steps by chance, their values made in one of some ways, most of them with so much room for the answer."""
     objects = rng.sample(OBJECTS_SENT, rng.choice([2, 3, 5, len(OBJECTS_SENT)]))
-    choose = rng.choice([plain_values, plain_values, values])
+    choose = rng.choice(ways)
     for _ in range(count):
         chance = rng.random()
         data = rng.choice(odd_calls()) if chance < 0.03 else call(rng.choice(OPERATIONS), **choose(rng, objects))
@@ -185,6 +192,44 @@ def twin(rng, orders):
             found |= {"text": "".join(rng.choices("aé€", k=rng.randrange(85))).encode(), "details": rng.choice([None, rng.randbytes(rng.randrange(513))])}
             order = order._replace(call=call(1, **found))
         yield order
+
+
+# ---- a list and the same with one severity entered wrong
+
+def refused_policy(rng, order):
+    """A policy call with a byte left over, or with too short an answer slice; few are left as they are."""
+    if not reach.is_policy(order) or rng.random() < 0.06:
+        return order
+    return rng.choice([order._replace(call=order.call + b"\0"), order._replace(room=1551)])
+
+
+def tight_report(rng, severities):
+    """A report that one severity can change, with room for few records."""
+    data = rng.choice([*(call(8, severity_or_all=severity) for severity in severities), call(9), call(10)])
+    return Step(data, 16 + WIDTH * rng.choice([0, 0, 1, 2, 3]), rng.randrange(256))
+
+
+def one_severity(rng, count):
+    """A list from opening or on a forged register, and the same with another severity in an early raise; no second one without a raise.
+
+    At times the alarm is raised just so directly before and behind: history then has one entry of these in one list, and more in the other.
+    """
+    given = rng.randint(1, 4), rng.randint(1, 12), rng.randint(1, 3)
+    start = opened(given) if rng.random() < 0.75 else Given(bytes(forged(rng, *given)))
+    orders = [start, *steps(rng, count, ample(given), (named_values, named_values, plain_values))]
+    places = reach.raises(orders)
+    if not places:
+        return orders, None
+    place = rng.choice(places[:4])
+    raised = orders[place]
+    severity = raised.call[reach.severity_at(raised.call)]
+    other = (severity + rng.randint(1, 5)) % 6
+    before = orders[:place] + [raised] * rng.randrange(2)
+    behind = [raised] * rng.randrange(2) + [refused_policy(rng, order) for order in orders[place + 1:]]
+    for at in range(0, len(behind), 4):
+        behind.insert(at, tight_report(rng, (severity, other)))
+    orders = [*before, raised, *behind]
+    return orders, reach.mistaken(orders, len(before), other)
 
 
 # ---- lists that are the same on every run

@@ -78,7 +78,7 @@ FAULTS = {fault.__name__: fault for fault in (past_the_answer, written_on_refusa
 
 def main():
     out, orders, before = sys.stdout.buffer, list(read(sys.stdin.buffer.read())), b""
-    for order, (number, length, answer, register) in zip(orders, modelled(orders)):
+    for order, (number, length, answer, register, _) in zip(orders, modelled(orders)):
         if isinstance(order, Open):
             before = bytes([order.former]) * order.size
         elif isinstance(order, Given):

@@ -1,5 +1,6 @@
 #!/usr/bin/env python3
-"""Whether the comparison notices: the model in the register's place, with and without faults, twins that are none, a balance that fails."""
+"""Whether the comparison notices: the model in the register's place, with and without faults, twins that are none, a balance that fails,
+a severity that reaches too far."""
 import collections
 import os
 import pathlib
@@ -11,6 +12,7 @@ import imports  # noqa: F401  (finds the list of checks)
 import generate
 import standin
 import test_balance
+import test_reach
 from calls import call
 from checklist import run
 from differential import Case, Tools, checked, fault_of, masked_register, modelled, report, shrunk
@@ -89,6 +91,7 @@ CHECKS = {
     "twins": twins,
     "the mask": mask,
     **test_balance.CHECKS,
+    **test_reach.CHECKS,
 }
 
 if __name__ == "__main__":
