@@ -1,12 +1,13 @@
 """How far one wrong severity reaches: M-113 of document 02, over document 01's calls and docs/layout.json, and not from the definition.
 
 Two lists differ only in the legal severity byte of one raise. After every call their active lengths are equal, and so is the active count
-of each severity but the two entered ones; the counts of these two differ by at most one.
+of each severity but the two entered ones; the counts of these two differ by at most one. Operations 1 to 4, 7 and 11 return the same
+number in both, and answer with the same head of 16 bytes.
 
 Part of this reading was given and not found independently, and would be wrong here where it is wrong there: policy calls are left aside
 only behind the raise and only where they are answered, and from the first of them on nothing is checked; refused calls may stand in the
-lists, whatever their first byte, and answer slices may be short; severities that were not entered keep their counts; and the lists may
-begin with any sound register.
+lists, whatever their first byte, and answer slices may be short; severities that were not entered keep their counts; what is said of
+numbers and heads; and the lists may begin with any sound register.
 """
 import collections
 import itertools
@@ -20,6 +21,8 @@ from records import LAYOUT, WIDTH, link, number
 from soundness import sound_chains
 
 RAISE, POLICY = b"\1", (b"\5", b"\6")  # operation bytes
+SAME_HEADS = (b"\1", b"\2", b"\3", b"\4", b"\7", b"\x0b")
+HEAD = 16
 
 
 # ---- two lists
@@ -116,6 +119,19 @@ def broken(one, other, severities):
     return None
 
 
+def head(outcome):
+    """What a call returned, and the head of its answer."""
+    return outcome.number, bytes(outcome.answer[:min(HEAD, outcome.length)])
+
+
+def told(order, one, other):
+    """What breaks the law between what two calls returned and answered, as text; None where nothing does."""
+    if isinstance(order, Step) and order.call[:1] in SAME_HEADS and head(one) != head(other):
+        found = [f"number {number}, head {data.hex()}" for number, data in (head(one), head(other))]
+        return f"operation {order.call[0]}: {found[0]}, and {found[1]}"
+    return None
+
+
 def active(one, other):
     """The active alarms of two lists after a call: by the register's bytes and, where it follows, by the Rust."""
     found = {"": (in_register(one.register), in_register(other.register))}
@@ -192,8 +208,8 @@ class Reach:
         sides = active(one, other)
         if self.behind:
             self.meet(order, one, other, sides)
-        faults = {by: broken(*both, self.severities) for by, both in sides.items()}
-        return next((f"one severity{by}: {fault}" for by, fault in faults.items() if fault), None)
+        faults = [(by, broken(*both, self.severities)) for by, both in sides.items()] + [("", told(order, one, other))]
+        return next((f"one severity{by}: {fault}" for by, fault in faults if fault), None)
 
     def meet(self, order, one, other, sides):
         """Counts what a call behind the raise meets."""

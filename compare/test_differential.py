@@ -13,6 +13,7 @@ import generate
 import standin
 import test_balance
 import test_reach
+import test_reach_heads
 from calls import call
 from checklist import run
 from differential import Case, Tools, checked, fault_of, masked_register, modelled, report, shrunk
@@ -92,6 +93,7 @@ CHECKS = {
     "the mask": mask,
     **test_balance.CHECKS,
     **test_reach.CHECKS,
+    **test_reach_heads.CHECKS,
 }
 
 if __name__ == "__main__":
