@@ -1,5 +1,7 @@
 //! `station`: lists of calls to a station alarm register, for the desk.
 mod balance;
+mod beside;
+mod chain;
 mod check;
 mod examine;
 mod failure;
