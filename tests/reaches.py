@@ -141,7 +141,7 @@ def history(_root):
     yield from bounds_at_end(got, True)
     out = " ".join(works("reach", calls, "--at", 2, "--severity", "minor").decode().split())
     for said in ("severity major; as changed, minor.", "The active counts by severity differ after call 2 alone.", "Bounded after every call: as many",
-                 "the counts of major and minor differ by at most 1", "it is so on this list only."):
+                 "the counts of major and minor differ by at most 1", "that is shown for this list only."):
         if said not in out:
             yield f"the page does not say {said!r}"
 

@@ -71,7 +71,7 @@ impl Bounded {
     fn said(&self) -> String {
         let [listed, changed] = self.values;
         let alarms = self.severity.map_or("alarms".to_string(), |severity| format!("{severity} alarms"));
-        format!("{listed} {alarms} are active as listed and {changed} as changed (bound: {})", self.bound)
+        format!("active {alarms} are {listed} as listed and {changed} as changed (bound: {})", self.bound)
     }
 }
 
@@ -89,7 +89,8 @@ pub struct Differing {
 /// What was seen after each call of the two runs.
 #[derive(Debug)]
 pub struct Bounds {
-    change: Change,
+    /// What differs between the two lists.
+    pub change: Change,
     at_end: [Active; 2],
     /// The calls after which active counts differ, if there is one.
     pub differing: Option<Differing>,
@@ -189,13 +190,13 @@ mod tests {
     #[test]
     fn each_figure_outside_its_bound_is_told_with_the_first_such_call() {
         let wrong = [
-            (8, [1, 1, 1, 2, 2, 1], "9 alarms are active as listed and 8 as changed (bound: equal)"),
-            (9, [2, 1, 1, 2, 2, 1], "1 cleared alarms are active as listed and 2 as changed (bound: equal)"),
-            (9, [1, 0, 1, 3, 3, 1], "1 indeterminate alarms are active as listed and 0 as changed (bound: equal)"),
-            (9, [1, 1, 2, 2, 2, 1], "1 warning alarms are active as listed and 2 as changed (bound: equal)"),
-            (9, [1, 1, 1, 1, 4, 1], "3 minor alarms are active as listed and 1 as changed (bound: at most 1)"),
-            (9, [1, 1, 1, 3, 0, 1], "2 major alarms are active as listed and 0 as changed (bound: at most 1)"),
-            (9, [1, 1, 1, 2, 2, 2], "1 critical alarms are active as listed and 2 as changed (bound: equal)"),
+            (8, [1, 1, 1, 2, 2, 1], "active alarms are 9 as listed and 8 as changed (bound: equal)"),
+            (9, [2, 1, 1, 2, 2, 1], "active cleared alarms are 1 as listed and 2 as changed (bound: equal)"),
+            (9, [1, 0, 1, 3, 3, 1], "active indeterminate alarms are 1 as listed and 0 as changed (bound: equal)"),
+            (9, [1, 1, 2, 2, 2, 1], "active warning alarms are 1 as listed and 2 as changed (bound: equal)"),
+            (9, [1, 1, 1, 1, 4, 1], "active minor alarms are 3 as listed and 1 as changed (bound: at most 1)"),
+            (9, [1, 1, 1, 3, 0, 1], "active major alarms are 2 as listed and 0 as changed (bound: at most 1)"),
+            (9, [1, 1, 1, 2, 2, 2], "active critical alarms are 1 as listed and 2 as changed (bound: equal)"),
         ];
         for (length, of_severity, said) in wrong {
             let mut bounds = bounds();
