@@ -248,7 +248,7 @@ mod tests {
 
     #[test]
     fn active_counts_are_those_of_the_register() {
-        let limits = Limits { active: 7, history: 7, audit: 1 };
+        let limits = Limits { active: 7, history: 3, audit: 1 };
         let (mut bytes, mut answer) = (vec![0; limits.register_length()], [0; ANSWER_ROOM]);
         let mut register = Register::open(&mut bytes, limits).unwrap();
         assert_eq!(Active::of(register.as_bytes()), Active::default());

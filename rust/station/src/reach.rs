@@ -26,16 +26,17 @@ each severity are active at the end.
                         UTC, as +01:00; without it, in UTC
   --json, --csv         the result for scripts; CSV has the figures alone
 
-Bounds, which are proved for every list of calls: after each call as many alarms
-are active in both runs; of the two severities that call N has, the active counts
-differ by at most 1; of every other severity they are equal. This ends with the
-first policy call behind call N that is answered (acknowledge-with-policy,
-suppress-with-policy), since a critical severity may stop a suppression: from there
-on nothing is bounded. Refused calls do no harm, nor do policy calls before call N.
+Bounds, which are proved for every list of calls (theorem reach): after each call
+as many alarms are active in both runs; of the two severities that call N has, the
+active counts differ by at most 1; of every other severity they are equal. This
+ends with the first policy call behind call N (acknowledge-with-policy or
+suppress-with-policy) that is answered, since a critical severity may stop a
+suppression: from there on nothing is bounded. Refused calls do no harm, nor do
+policy calls before call N.
 
-Of all other figures nothing is proved: where one is equal, that is shown for this
-list only. History is among them: whether a change gets an entry of its own there
-or overwrites the newest one depends on the severity of both.
+Of other figures the theorem says nothing: where one is equal, that is shown for
+this list only. History is among them: whether a change gets an entry of its own
+there or overwrites the newest one depends on the severity of both.
 
 Exit status: 0 fine, whether figures differ or not, 1 a bound does not hold (the
 library or this program is damaged), 2 the command line is not understood, 3 LIST
