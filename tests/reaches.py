@@ -98,35 +98,41 @@ def page(_root):
         yield "examples/day.reach is not what `station reach` prints"
 
 
+def unlike_recount(got, column, calls):
+    """The fault of a column that is not what `station recount` and operation 10 count of its list; a figure that a list does not have is 0."""
+    counts = {f"active at end {name}": str(count) for name, count in counted(calls).items()}
+    figures = {**counts, **{name: row["value"] for name, row in rows("recount", calls).items()}}
+    shown = {name: row[column] for name, row in got["figures"].items() if name in figures or row[column] != "0"}
+    if shown != figures:
+        yield f"call {got['call']} as {got['severity_as_changed']}, {column}: {set(shown.items()) ^ set(figures.items())}"
+
+
 def day(_root):
-    """Each raise of the day with each other severity: both columns are what `station recount` counts of both lists."""
+    """Each raise of the day with each other severity: both columns are recounted, and bounds end where a policy call is answered."""
+    lines = works("read", DAY).decode().splitlines()[1:]
     for (at, policy), severity in itertools.product(DAY_RAISES.items(), SEVERITIES):
-        if f" severity={severity} " in works("read", DAY).decode().splitlines()[at]:
+        if f" severity={severity} " in lines[at - 1]:
             continue
-        got, other = reached(DAY, at, severity), changed(DAY, at, severity)
+        got = reached(DAY, at, severity)
         yield from bounds_at_end(got, policy is None)
+        yield from unlike_recount(got, "as_listed", DAY)
+        yield from unlike_recount(got, "as_changed", changed(DAY, at, severity))
         if (got["call"], got["severity_as_changed"], got["unbounded_from_call"]) != (at, severity, policy):
             yield f"call {at} as {severity}: {got['unbounded_from_call']}, and not {policy}, is where bounds end"
-        for column, calls in (("as_listed", DAY), ("as_changed", other)):
-            counts = {f"active at end {name}": str(count) for name, count in counted(calls).items()}
-            figures = {**counts, **{name: row["value"] for name, row in rows("recount", calls).items()}}
-            # a figure that a list does not have is 0 here
-            shown = {name: row[column] for name, row in got["figures"].items() if name in figures or row[column] != "0"}
-            if shown != figures:
-                yield f"call {at} as {severity}, {column}: {set(shown.items()) ^ set(figures.items())}"
+
+
+def counted_after(data, length):
+    """The active counts after so many calls of a list: those of a list that ends there."""
+    calls = b"".join(len(call).to_bytes(4, "big") + call for call in calls_of(data)[:length])
+    return counted(saved("part.calls", data[:28] + calls + b"\xff" * 4 + length.to_bytes(4, "big")))
 
 
 def after_each_call(_root):
-    """The calls after which counts differ are those after which operation 10 counts otherwise, on lists that end there."""
+    """The calls after which counts differ are those after which operation 10 counts otherwise."""
     for at, severity in ((3, "critical"), (10, "cleared"), (18, "critical"), (20, "major"), (23, "minor")):
-        both = [path.read_bytes() for path in (DAY, changed(DAY, at, severity))]
-        calls = [calls_of(data) for data in both]
-        differing = []
-        for length in range(len(calls[0]) + 1):
-            ends_here = [b"".join(len(call).to_bytes(4, "big") + call for call in some[:length]) for some in calls]
-            files = [data[:28] + part + b"\xff" * 4 + length.to_bytes(4, "big") for data, part in zip(both, ends_here)]
-            first, second = (counted(saved("part.calls", file)) for file in files)
-            differing += [length] if first != second else []
+        first, second = (path.read_bytes() for path in (DAY, changed(DAY, at, severity)))
+        numbers = range(1, len(calls_of(first)) + 1)
+        differing = [number for number in numbers if counted_after(first, number) != counted_after(second, number)]
         got = reached(DAY, at, severity)
         if (got["differing_calls"], got["first_differing_call"], got["last_differing_call"]) != (len(differing), differing[0], differing[-1]):
             yield f"call {at} as {severity}: counts differ after {differing}"
