@@ -10,11 +10,14 @@ import subprocess
 import sys
 import tempfile
 
+import reaches
 import recounts
 from checklist import HERE, Skip, run
 from program import DAY, MONTH, PAGE_WIDTH, STATION, WORK, cargo, ends, ready, saved, station, too_wide, with_program, without_library, works
 
-COMMANDS = ("write", "read", "replay", "recount", "twin", "check")
+COMMANDS = ("write", "read", "replay", "recount", "twin", "reach", "check")
+# The commands that run or print a list, with the options that they need.
+ON_LISTS = {"read": [], "replay": [], "recount": [], "twin": [], "reach": ["--at", 23, "--severity", "minor"]}
 HELP_WIDTH = 83
 
 
@@ -102,12 +105,12 @@ def list_faults(_root):
     ]
     for name, data, said in lists:
         path = saved(name, data)
-        for command in ("read", "replay", "recount", "twin"):
-            yield from ends(3, said, command, path)
+        for command, words in ON_LISTS.items():
+            yield from ends(3, said, command, path, *words)
     limits = saved("limits.calls", whole[:12] + b"\xff" * 12 + whole[24:])
-    for command in ("read", "replay", "recount", "twin"):
-        yield from ends(3, "20: a limit is 0 or above 65,535", command, limits)
-        yield from ends(4, "there is no such file", command, WORK / "nowhere.calls")
+    for command, words in ON_LISTS.items():
+        yield from ends(3, "20: a limit is 0 or above 65,535", command, limits, *words)
+        yield from ends(4, "there is no such file", command, WORK / "nowhere.calls", *words)
 
 
 def table(calls, name):
@@ -208,12 +211,12 @@ def columns(root):
     """The columns that docs/CALLS.md promises to scripts are those that are printed."""
     page = (root / "docs/CALLS.md").read_text(encoding="utf-8")
     tables = re.findall(r"^\| ((?:`[a-z -]+`(?:, )?)+) \| ([a-z_, ]+) \|$", page, re.M)
-    if len(tables) != 9:
+    if len(tables) != 10:
         yield f"docs/CALLS.md has {len(tables)} tables"
     for names, promised in tables:
         for name in re.findall(r"`([a-z -]+)`", names):
             command, *words = name.split()
-            words += ["examples/day.csv"] if words == ["--against"] else []
+            words += ["examples/day.csv"] if words == ["--against"] else ON_LISTS.get(command, [])
             _, out, _ = station(command, *words, HERE / "examples/day.txt" if command == "check" else DAY, "--csv")
             if out.decode().split("\n")[0] != promised.replace(", ", ","):
                 yield f"{name} has the columns {out.decode().splitlines()[:1]}"
@@ -246,6 +249,7 @@ USES = {
     "pages are narrow enough": narrow,
     "texts do not steer": steered,
     **recounts.CHECKS,
+    **reaches.CHECKS,
     "twins are the same": twins,
     "registers are checked": checked,
     "closed pipes and full disks": closed,

@@ -1,4 +1,5 @@
 //! The balance of the raw calls and of a report: raised = active at end + cleared + expired.
+use crate::failure::damaged;
 use crate::figures::Figure;
 use crate::ruled::{wrapped, PAGE_WIDTH};
 use crate::table::json_string;
@@ -158,9 +159,7 @@ impl Balances {
     /// What is to be said aloud where one does not hold.
     pub fn fault(&self) -> Option<String> {
         if self.raw_calls.broken() {
-            let said = self.raw_calls.said();
-            let then = "the register is proved to balance, so its library or this program is damaged: use no figure of this run";
-            return Some(format!("the raw calls do not balance: {said}; {then}"));
+            return Some(format!("the raw calls do not balance: {}; {}", self.raw_calls.said(), damaged("to balance")));
         }
         let report = self.report.as_ref().filter(|report| report.broken())?;
         Some(format!("{} does not balance: {}", report.whose, report.said()))

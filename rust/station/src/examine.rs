@@ -1,4 +1,5 @@
 //! Where to look in bytes that are not a sound register: a help for people. Whether they are sound, the register says.
+use crate::chain::{self, number};
 use crate::record::{self, Chain};
 use alarm_register::layout::header;
 use alarm_register::RECORD_WIDTH;
@@ -18,13 +19,9 @@ fn finding(byte: usize, what: String) -> Finding {
     Finding { record: byte / RECORD_WIDTH, byte, what }
 }
 
-fn number(bytes: &[u8], at: usize) -> usize {
-    bytes.get(at..at + 4).and_then(|bytes| bytes.try_into().ok()).map_or(0, |bytes| u32::from_be_bytes(bytes) as usize)
-}
-
 /// The lengths of the four chains as the header gives them.
 pub fn lengths(bytes: &[u8]) -> [usize; 4] {
-    header::HEADS.map(|head| number(bytes, head + 4))
+    header::HEADS.map(|head| chain::length(bytes, head))
 }
 
 /// What is wrong with the bytes of a register.

@@ -5,7 +5,7 @@ use std::path::Path;
 
 /// Everything went well.
 pub const FINE: u8 = 0;
-/// The figures differ, a balance does not hold, the twins differ, or the register is not sound.
+/// The figures differ, a balance or a bound does not hold, the twins differ, or the register is not sound.
 pub const FOUND: u8 = 1;
 
 /// A command that cannot be carried out; each has one sentence for people.
@@ -50,6 +50,11 @@ impl Failure {
 pub fn tell(said: &str) {
     // where standard error is closed too, the status alone tells
     let _ = writeln!(io::stderr(), "station: {said}");
+}
+
+/// What follows where a run shows otherwise than is proved of the register.
+pub fn damaged(proved: &str) -> String {
+    format!("the register is proved {proved}, so its library or this program is damaged: use no figure of this run")
 }
 
 /// How a file is named to people: `-` is standard input.

@@ -1,5 +1,5 @@
 //! Files and standard streams.
-use crate::failure::Failure;
+use crate::failure::{tell, Failure};
 use crate::list::List;
 use std::fs;
 use std::io::{self, Read, Write};
@@ -41,4 +41,14 @@ pub fn write(file: Option<&str>, bytes: &[u8]) -> Result<(), Failure> {
 pub fn print(bytes: &[u8]) -> Result<(), Failure> {
     let mut out = io::stdout().lock();
     out.write_all(bytes).and_then(|()| out.flush()).map_err(|error| Failure::system("write", "standard output", &error))
+}
+
+/// Writes to standard output, and says a fault aloud even if nobody reads that. Gives the status, which tells of the fault too.
+pub fn show(shown: &str, fault: Option<&str>, status: u8) -> Result<u8, Failure> {
+    let printed = print(shown.as_bytes());
+    fault.into_iter().for_each(tell);
+    match printed {
+        Err(Failure::Closed) if fault.is_some() => Ok(status),
+        printed => printed.map(|()| status),
+    }
 }

@@ -1,5 +1,9 @@
 //! `station`: lists of calls to a station alarm register, for the desk.
 mod balance;
+mod beside;
+mod bounds;
+mod chain;
+mod change;
 mod check;
 mod examine;
 mod failure;
@@ -9,6 +13,7 @@ mod list;
 mod options;
 mod page;
 mod progress;
+mod reach;
 mod record;
 mod recount;
 mod replay;
@@ -36,6 +41,8 @@ reports from them. `station COMMAND --help` says more.
   recount LIST --against REPORT   the figures of the raw calls beside a report's
   twin LIST                       runs the calls with other texts, and shows that
                                   every figure is the same
+  reach LIST --at N --severity S  how far one wrong severity reaches: the figures
+                                  with it and without it, and which are bounded
   check REGISTER                  whether a file holds a sound register, and
                                   where to look if not
 
@@ -43,8 +50,8 @@ A file named - is standard input. `station --version` prints the version.
 
 Exit status:
   0  fine; also where the reader stops early, as in `station read LIST | head`
-  1  figures differ, a balance does not hold, twins differ, or the register is
-     not sound
+  1  figures differ, a balance or a bound does not hold, twins differ, or the
+     register is not sound
   2  the command line is not understood
   3  a file does not hold what it should
   4  a file cannot be read or written
@@ -73,13 +80,14 @@ Exit status: 0 fine, 2 the command line is not understood, 3 TEXT has a fault,
 ";
 
 const READ_HELP: &str = "\
-station read LIST [--zone ZONE] [-o TEXT]
+station read LIST [--zone ZONE] [--numbers] [-o TEXT]
 
 Prints a list of calls as text. `station write` makes the same bytes of it again.
 A call that a register refuses for what it says is printed as its bytes, with the
 refusal behind it as a comment. LIST may be - for standard input.
 
   --zone ZONE   times of clocks so far ahead of UTC, as +01:00; without it, UTC
+  --numbers     the number of each call behind it, as a comment; the first is 1
   -o TEXT       writes to a file
 
 Exit status: 0 fine, 2 the command line is not understood, 3 LIST is not a list
@@ -94,9 +102,9 @@ struct Command {
     run: fn(&Options) -> Result<u8, Failure>,
 }
 
-const COMMANDS: [Command; 6] = [
+const COMMANDS: [Command; 7] = [
     Command { name: "write", help: WRITE_HELP, options: &["-o"], run: write },
-    Command { name: "read", help: READ_HELP, options: &["-o", "--zone"], run: read },
+    Command { name: "read", help: READ_HELP, options: &["-o", "--zone", "--numbers"], run: read },
     Command { name: "replay", help: page::HELP, options: &["-o", "--only", "--zone", "--json", "--csv"], run: page::command },
     Command {
         name: "recount",
@@ -105,6 +113,12 @@ const COMMANDS: [Command; 6] = [
         run: recount::command,
     },
     Command { name: "twin", help: twin::HELP, options: &["--json", "--csv"], run: twin::command },
+    Command {
+        name: "reach",
+        help: reach::HELP,
+        options: &["--at", "--severity", "--zone", "--json", "--csv"],
+        run: reach::command,
+    },
     Command { name: "check", help: check::HELP, options: &["--json", "--csv"], run: check::command },
 ];
 
@@ -118,7 +132,7 @@ fn write(options: &Options) -> Result<u8, Failure> {
 
 fn read(options: &Options) -> Result<u8, Failure> {
     let list = files::list(&options.file)?;
-    files::write(options.output.as_deref(), text::write(&list, options.zone).as_bytes()).map(|()| FINE)
+    files::write(options.output.as_deref(), text::write(&list, options.zone, options.numbers).as_bytes()).map(|()| FINE)
 }
 
 fn asks_for_help(word: &String) -> bool {

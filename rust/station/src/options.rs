@@ -1,6 +1,7 @@
 //! The command line.
 use crate::failure::Failure;
-use crate::text::Zone;
+use crate::text::{severity_named, Zone};
+use alarm_register::Severity;
 
 /// The form of the output.
 #[derive(Clone, Copy, Debug, PartialEq, Eq)]
@@ -26,6 +27,12 @@ pub struct Options {
     pub only: Option<String>,
     /// Whether figures that a report leaves out are no differences.
     pub partial: bool,
+    /// Whether calls are shown with their numbers.
+    pub numbers: bool,
+    /// The number of the call that is meant, from 1.
+    pub at: Option<usize>,
+    /// The severity that it gets.
+    pub severity: Option<Severity>,
     /// The form of the output.
     pub form: Form,
     /// The zone of the times in it.
@@ -41,6 +48,9 @@ impl Options {
             against: None,
             only: None,
             partial: false,
+            numbers: false,
+            at: None,
+            severity: None,
             form: Form::Page,
             zone: Zone::default(),
         };
@@ -71,6 +81,14 @@ impl Options {
             "--against" => self.against = Some(value()?),
             "--only" => self.only = Some(value()?),
             "--partial" => self.partial = true,
+            "--numbers" => self.numbers = true,
+            "--at" => {
+                let number = value()?.parse().ok().filter(|number| *number > 0);
+                self.at = Some(number.ok_or_else(|| usage(command, "--at takes the number of a call, counted from 1"))?);
+            }
+            "--severity" => {
+                self.severity = Some(severity_named(value()?.as_bytes()).map_err(|known| usage(command, known))?);
+            }
             "--zone" => {
                 self.zone = Zone::of(&value()?).map_err(|_| usage(command, "--zone takes a zone such as +01:00 or UTC"))?
             }

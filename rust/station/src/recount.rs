@@ -1,6 +1,7 @@
 //! `station recount`: a report's figures beside those of the raw calls.
 use crate::balance::{Balances, FourFigures};
-use crate::failure::{named, tell, Failure, FINE, FOUND};
+use crate::beside::{self, Row};
+use crate::failure::{named, Failure, FINE, FOUND};
 use crate::figures::{self, Figure};
 use crate::files;
 use crate::options::{usage, Form, Options};
@@ -80,7 +81,7 @@ pub fn command(options: &Options) -> Result<u8, Failure> {
             ("balance", balances.json()),
         ]),
     };
-    show(&shown, &balances, differing == 0)
+    files::show(&shown, balances.fault().as_deref(), status(&balances, differing == 0))
 }
 
 fn alone(counted: &[Figure], balances: &Balances, form: Form) -> Result<u8, Failure> {
@@ -90,18 +91,7 @@ fn alone(counted: &[Figure], balances: &Balances, form: Form) -> Result<u8, Fail
         Form::Csv => table.csv(),
         Form::Json => json_object(&[("figures", table.json()), ("balance", balances.json())]),
     };
-    show(&shown, balances, true)
-}
-
-/// Prints, and says aloud where a balance does not hold, even if nobody reads what is printed.
-fn show(shown: &str, balances: &Balances, equal: bool) -> Result<u8, Failure> {
-    let printed = files::print(shown.as_bytes());
-    let fault = balances.fault();
-    fault.iter().for_each(|fault| tell(fault));
-    match printed {
-        Err(Failure::Closed) if fault.is_some() => Ok(FOUND),
-        printed => printed.map(|()| status(balances, equal)),
-    }
+    files::show(&shown, balances.fault().as_deref(), status(balances, true))
 }
 
 fn status(balances: &Balances, equal: bool) -> u8 {
@@ -112,48 +102,17 @@ fn status(balances: &Balances, equal: bool) -> u8 {
     }
 }
 
-/// A figure of the raw calls beside the report's.
-struct Row {
-    name: String,
-    counted: String,
-    reported: Option<String>,
-    equal: bool,
-}
-
-/// The value of a figure that is not given.
-fn absent(name: &str) -> &'static str {
-    match name {
-        "worst at end" => "none",
-        "readiness at end" => "no impact",
-        _ => "0",
-    }
-}
-
+/// The figures of the raw calls, then those of the report alone; of a part, only what it reports.
 fn beside(counted: &[Figure], reported: &[Figure], partial: bool) -> Vec<Row> {
-    let value =
-        |figures: &[Figure], name: &str| figures.iter().find(|(figure, _)| figure == name).map(|(_, value)| value.clone());
-    let only_reported = reported.iter().filter(|(name, _)| value(counted, name).is_none());
+    let only_reported = reported.iter().filter(|(name, _)| !counted.iter().any(|(figure, _)| figure == name));
     let names = counted.iter().chain(only_reported).map(|(name, _)| name);
-    let row = |name: &String| {
-        let reported = value(reported, name);
-        let counted = value(counted, name).unwrap_or_else(|| absent(name).to_string());
-        let equal = counted == reported.as_deref().unwrap_or(absent(name));
-        Row { name: name.clone(), counted, reported, equal }
-    };
-    names.map(row).filter(|row| !partial || row.reported.is_some()).collect()
+    beside::rows(names, counted, reported).into_iter().filter(|row| !partial || row.second.is_some()).collect()
 }
 
 fn table(against: &str, rows: &[Row]) -> Table {
     let cells = |row: &Row| {
-        let reported = row.reported.as_deref().unwrap_or("left out");
-        let (raw, report) = (row.counted.parse::<i128>(), row.reported.as_deref().unwrap_or(absent(&row.name)).parse::<i128>());
-        let more = raw.ok().zip(report.ok()).and_then(|(raw, report)| report.checked_sub(raw)).filter(|more| *more != 0);
-        let difference = match more {
-            _ if row.equal => String::new(),
-            Some(more) => format!("{more:+}"),
-            None => "differs".to_string(),
-        };
-        vec![Cell::of(&row.name), Cell::of(&row.counted), Cell::of(reported), Cell::of(difference)]
+        let reported = row.second.as_deref().unwrap_or("left out");
+        vec![Cell::of(&row.name), Cell::of(&row.first), Cell::of(reported), Cell::of(row.difference().unwrap_or_default())]
     };
     Table {
         name: "figures",

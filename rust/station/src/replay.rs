@@ -46,6 +46,16 @@ impl Machine {
     }
 }
 
+/// A call of one of two runs: what it got, and the register behind it.
+pub struct Step<'a> {
+    /// The call.
+    pub call: &'a [u8],
+    /// Its answer.
+    pub got: Result<&'a [u8], Refusal>,
+    /// The register's bytes.
+    pub register: &'a [u8],
+}
+
 /// How often each cause was raised.
 #[derive(Debug, Default, Clone, PartialEq, Eq)]
 pub struct Raises {
@@ -142,8 +152,11 @@ fn records(answer: &[u8]) -> impl Iterator<Item = &[u8]> {
     answer[alarm_register::HEAD_WIDTH..].chunks(alarm_register::RECORD_WIDTH).take(count)
 }
 
+/// A list's register, and what its answers add up to.
+pub type Run = (Machine, Tally);
+
 /// Runs a whole list; gives the register at its end, and what the answers add up to.
-pub fn run(list: &List) -> Result<(Machine, Tally), String> {
+pub fn run(list: &List) -> Result<Run, String> {
     let mut machine = Machine::fresh(list)?;
     let mut tally = Tally::default();
     let mut progress = Progress::new(list.calls.len());
@@ -152,4 +165,22 @@ pub fn run(list: &List) -> Result<(Machine, Tally), String> {
         tally.add(call, machine.step(call));
     }
     Ok((machine, tally))
+}
+
+/// Runs two lists of as many calls side by side. After each call `see` gets its number, from 1, and what it did in both runs.
+pub fn run_both([list, other]: [&List; 2], mut see: impl FnMut(usize, [Step<'_>; 2])) -> Result<[Run; 2], String> {
+    let mut first = (Machine::fresh(list)?, Tally::default());
+    let mut second = (Machine::fresh(other)?, Tally::default());
+    let mut progress = Progress::new(list.calls.len());
+    for (place, (call, other_call)) in list.calls.iter().zip(&other.calls).enumerate() {
+        progress.done(place);
+        see(place + 1, [step(&mut first, call), step(&mut second, other_call)]);
+    }
+    Ok([first, second])
+}
+
+fn step<'a>((machine, tally): &'a mut Run, call: &'a [u8]) -> Step<'a> {
+    let got = Register::over(&mut machine.register).step(call, &mut machine.answer);
+    tally.add(call, got);
+    Step { call, got, register: &machine.register }
 }

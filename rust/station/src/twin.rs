@@ -1,14 +1,14 @@
 //! `station twin`: other texts and details, the same figures.
+use crate::chain;
 use crate::failure::{Failure, FINE, FOUND};
 use crate::figures;
 use crate::files;
 use crate::list::List;
 use crate::options::{Form, Options};
-use crate::progress::Progress;
-use crate::replay::{Machine, Tally};
+use crate::replay::{self, Run, Step};
 use crate::table::{column, json_object, json_string, numbers, Cell, Table};
 use alarm_register::layout::{alarm, header};
-use alarm_register::{check_call, Call, Raise, HEAD_WIDTH, RECORD_WIDTH};
+use alarm_register::{check_call, Call, Raise, Refusal, HEAD_WIDTH, RECORD_WIDTH};
 
 pub const HELP: &str = "\
 station twin LIST [--json | --csv]
@@ -71,54 +71,49 @@ struct Compared {
     difference: Option<String>,
 }
 
-fn compare(list: &List, twin: &List) -> Result<Compared, String> {
-    let (mut first, mut second) = (Machine::fresh(list)?, Machine::fresh(twin)?);
-    let (mut tally, mut other_tally) = (Tally::default(), Tally::default());
-    let mut compared = Compared { calls: 0, answer_bytes: 0, register_bytes: 0, figures: 0, figure_bytes: 0, difference: None };
-    let mut progress = Progress::new(list.calls.len());
-    for (place, (call, other)) in list.calls.iter().zip(&twin.calls).enumerate() {
-        progress.done(place);
-        let (got, other_got) = (first.step(call).map(<[u8]>::to_vec), second.step(other).map(<[u8]>::to_vec));
-        tally.add(call, got.as_deref().map_err(|refusal| *refusal));
-        other_tally.add(other, other_got.as_deref().map_err(|refusal| *refusal));
-        compared.calls += 1;
-        compared.answer_bytes += got.as_ref().map_or(0, Vec::len);
-        compared.register_bytes += first.register().len();
-        if got.map(|answer| masked_answer(call, answer)) != other_got.map(|answer| masked_answer(call, answer)) {
-            compared.difference.get_or_insert(format!("call {} is answered otherwise", place + 1));
+impl Compared {
+    /// Compares what a call did in both runs.
+    fn add(&mut self, number: usize, [step, other]: [Step<'_>; 2]) {
+        self.calls += 1;
+        self.answer_bytes += step.got.map_or(0, <[u8]>::len);
+        self.register_bytes += step.register.len();
+        if masked_answer(&step) != masked_answer(&other) {
+            self.difference.get_or_insert(format!("call {number} is answered otherwise"));
         }
-        if masked_register(first.register()) != masked_register(second.register()) {
-            compared.difference.get_or_insert(format!("the registers differ after call {}", place + 1));
+        if masked_register(step.register) != masked_register(other.register) {
+            self.difference.get_or_insert(format!("the registers differ after call {number}"));
         }
     }
-    let figures = figures::of(&first, &tally).map_err(|refusal| refusal.to_string())?;
-    let printed = figures::table(&figures).csv();
-    let other = figures::table(&figures::of(&second, &other_tally).map_err(|refusal| refusal.to_string())?).csv();
-    if printed != other {
-        compared.difference.get_or_insert("the figures differ".to_string());
-    }
-    Ok(Compared { figures: figures.len(), figure_bytes: printed.len(), ..compared })
 }
 
-/// An answer with text and details taken as zero in its alarm records.
-fn masked_answer(call: &[u8], mut answer: Vec<u8>) -> Vec<u8> {
-    let alarms = matches!(answer.first(), Some(1 | 2 | 6 | 7)) || matches!(call.first(), Some(8 | 9));
+fn compare(list: &List, twin: &List) -> Result<Compared, String> {
+    let mut compared = Compared { calls: 0, answer_bytes: 0, register_bytes: 0, figures: 0, figure_bytes: 0, difference: None };
+    let [first, second] = replay::run_both([list, twin], |number, steps| compared.add(number, steps))?;
+    let figures = |(machine, tally): &Run| figures::of(machine, tally).map_err(|refusal| refusal.to_string());
+    let (counted, other) = (figures(&first)?, figures(&second)?);
+    let printed = figures::table(&counted).csv();
+    if printed != figures::table(&other).csv() {
+        compared.difference.get_or_insert("the figures differ".to_string());
+    }
+    Ok(Compared { figures: counted.len(), figure_bytes: printed.len(), ..compared })
+}
+
+/// What a call got, with text and details taken as zero in the answer's alarm records.
+fn masked_answer(step: &Step<'_>) -> Result<Vec<u8>, Refusal> {
+    let mut answer = step.got?.to_vec();
+    let alarms = matches!(answer.first(), Some(1 | 2 | 6 | 7)) || matches!(step.call.first(), Some(8 | 9));
     if alarms {
         answer[HEAD_WIDTH..].chunks_exact_mut(RECORD_WIDTH).for_each(|record| record[alarm::TEXTS].fill(0));
     }
-    answer
+    Ok(answer)
 }
 
 /// A register with text and details taken as zero in the records of the active and the history chain.
 fn masked_register(register: &[u8]) -> Vec<u8> {
-    let number = |at: usize| u32::from_be_bytes(register[at..at + 4].try_into().unwrap_or_default()) as usize;
+    let [active, history, ..] = header::HEADS;
     let mut masked = register.to_vec();
-    for chain in &header::HEADS[..2] {
-        let (mut record, length) = (number(*chain), number(*chain + 4));
-        for _ in 0..length {
-            masked[record * RECORD_WIDTH..][alarm::TEXTS].fill(0);
-            record = number(record * RECORD_WIDTH);
-        }
+    for record in chain::records(register, active).chain(chain::records(register, history)) {
+        masked[record..][alarm::TEXTS].fill(0);
     }
     masked
 }

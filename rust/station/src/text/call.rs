@@ -185,10 +185,14 @@ impl ObjectParts {
     }
 }
 
-fn severity(value: Value) -> Result<Severity, Fault> {
+/// The severity of a name, or which names there are.
+pub fn severity_named(name: &[u8]) -> Result<Severity, &'static str> {
     let known = "a severity is cleared, indeterminate, warning, minor, major or critical";
-    let column = value.column;
-    std::str::from_utf8(&value.bytes).ok().and_then(Severity::from_name).ok_or_else(|| Fault::new(column, known))
+    std::str::from_utf8(name).ok().and_then(Severity::from_name).ok_or(known)
+}
+
+fn severity(value: Value) -> Result<Severity, Fault> {
+    severity_named(&value.bytes).map_err(|known| Fault::new(value.column, known))
 }
 
 fn plain_action(action: Action, time: Time, fields: &mut Fields) -> Result<Parsed, Fault> {

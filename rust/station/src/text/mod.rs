@@ -8,8 +8,9 @@ mod print;
 mod tests;
 mod zone;
 
+pub use call::severity_named;
 pub use cursor::Fault;
-pub use print::quoted_for_page;
+pub use print::{line, quoted_for_page};
 pub use zone::Zone;
 
 use crate::list::{opens_with, List};
@@ -29,8 +30,8 @@ pub fn read(text: &str) -> Result<List, Fault> {
     Ok(List { limits, answer: reading.answer, calls: reading.calls })
 }
 
-/// The text that describes a list, with the times of a zone.
-pub fn write(list: &List, zone: Zone) -> String {
+/// The text that describes a list, with the times of a zone, and each call's number behind it where that is wanted.
+pub fn write(list: &List, zone: Zone, numbered: bool) -> String {
     let Limits { active, history, audit } = list.limits;
     let mut text = format!("limits active={active} history={history} audit={audit}\n");
     if let Some(length) = list.answer {
@@ -39,7 +40,8 @@ pub fn write(list: &List, zone: Zone) -> String {
     if zone != Zone::default() {
         text += &format!("zone {zone}\n");
     }
-    text.extend(list.calls.iter().map(|call| print::line(call, zone) + "\n"));
+    let number = |place: usize| if numbered { format!(" # call {}", place + 1) } else { String::new() };
+    text.extend(list.calls.iter().enumerate().map(|(place, call)| line(call, zone) + &number(place) + "\n"));
     text
 }
 

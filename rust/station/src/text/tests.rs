@@ -52,9 +52,10 @@ fn a_list_comes_back_from_its_text() {
     list.calls.push(vec![]);
     for zone in ["UTC", "+01:00", "-09:30"] {
         let zone = Zone::of(zone).unwrap();
-        let text = write(&list, zone);
+        let text = write(&list, zone, false);
         assert_eq!(read(&text).as_ref(), Ok(&list));
-        assert_eq!(write(&read(&text).unwrap(), zone), text);
+        assert_eq!(write(&read(&text).unwrap(), zone, false), text);
+        assert_eq!(read(&write(&list, zone, true)).as_ref(), Ok(&list));
     }
 }
 

@@ -1,0 +1,260 @@
+//! What is bounded while one severity differs between two runs (theorem `reach`), and what was seen of it.
+use crate::chain;
+use crate::change::Change;
+use crate::failure::damaged;
+use crate::replay::Step;
+use alarm_register::layout::{alarm, header};
+use alarm_register::Severity;
+use std::fmt;
+
+const SEVERITIES: usize = Severity::ALL.len();
+
+/// How many alarms are active, in all and of each severity.
+#[derive(Clone, Copy, Debug, Default, PartialEq, Eq)]
+pub struct Active {
+    length: usize,
+    of_severity: [usize; SEVERITIES],
+}
+
+impl Active {
+    /// Those of a sound register, read from its active chain: an operation that lists them would cost as much as a call.
+    fn of(register: &[u8]) -> Active {
+        let [head, ..] = header::HEADS;
+        let mut of_severity = [0; SEVERITIES];
+        for record in chain::records(register, head) {
+            of_severity[usize::from(register[record + alarm::SEVERITY])] += 1;
+        }
+        Active { length: chain::length(register, head), of_severity }
+    }
+}
+
+/// By how much a figure may differ between the two runs.
+#[derive(Clone, Copy, Debug, PartialEq, Eq)]
+pub enum Bound {
+    /// Not at all.
+    Equal,
+    /// By one.
+    AtMostOne,
+}
+
+impl fmt::Display for Bound {
+    fn fmt(&self, f: &mut fmt::Formatter<'_>) -> fmt::Result {
+        f.write_str(match self {
+            Bound::Equal => "equal",
+            Bound::AtMostOne => "at most 1",
+        })
+    }
+}
+
+/// A figure of which the theorem speaks: the active length, or the active count of a severity.
+#[derive(Debug)]
+pub struct Bounded {
+    /// The severity whose alarms are counted; none: all.
+    severity: Option<Severity>,
+    /// As listed, and as changed.
+    pub values: [usize; 2],
+    /// What the theorem gives.
+    pub bound: Bound,
+}
+
+impl Bounded {
+    /// The figure's name at the end of a list.
+    pub fn name(&self) -> String {
+        self.severity.map_or("active at end".to_string(), |severity| format!("active at end {severity}"))
+    }
+
+    fn holds(&self) -> bool {
+        let [listed, changed] = self.values;
+        listed.abs_diff(changed) <= usize::from(self.bound == Bound::AtMostOne)
+    }
+
+    fn said(&self) -> String {
+        let [listed, changed] = self.values;
+        let alarms = self.severity.map_or("alarms".to_string(), |severity| format!("{severity} alarms"));
+        format!("active {alarms} are {listed} as listed and {changed} as changed (bound: {})", self.bound)
+    }
+}
+
+/// The calls after which active counts differ.
+#[derive(Clone, Copy, Debug, PartialEq, Eq)]
+pub struct Differing {
+    /// How many there are.
+    pub calls: usize,
+    /// The number of the first.
+    pub first: usize,
+    /// The number of the last.
+    pub last: usize,
+}
+
+/// What was seen after each call of the two runs.
+#[derive(Debug)]
+pub struct Bounds {
+    /// What differs between the two lists.
+    pub change: Change,
+    at_end: [Active; 2],
+    /// The calls after which active counts differ, if there is one.
+    pub differing: Option<Differing>,
+    /// The first answered policy call behind the raise: from there on nothing is bounded.
+    pub unbounded_from: Option<usize>,
+    /// The first bound that did not hold.
+    broken: Option<String>,
+}
+
+impl Bounds {
+    /// The bounds of a change, before the first call.
+    pub fn of(change: Change) -> Bounds {
+        Bounds { change, at_end: [Active::default(); 2], differing: None, unbounded_from: None, broken: None }
+    }
+
+    /// Looks at both runs after a call.
+    pub fn see(&mut self, number: usize, steps: &[Step<'_>; 2]) {
+        let answered_policy = |step: &Step<'_>| matches!(step.call.first(), Some(5 | 6)) && step.got.is_ok();
+        if number > self.change.number && steps.iter().any(answered_policy) {
+            self.unbounded_from.get_or_insert(number);
+        }
+        self.add(number, steps.each_ref().map(|step| Active::of(step.register)));
+    }
+
+    fn add(&mut self, number: usize, active: [Active; 2]) {
+        self.at_end = active;
+        if active[0] == active[1] {
+            return;
+        }
+        let earlier = self.differing.unwrap_or(Differing { calls: 0, first: number, last: number });
+        self.differing = Some(Differing { calls: earlier.calls + 1, last: number, ..earlier });
+        if self.unbounded_from.is_none() && self.broken.is_none() {
+            let wrong = self.figures().into_iter().find(|figure| !figure.holds());
+            self.broken = wrong.map(|figure| format!("after call {number} {}", figure.said()));
+        }
+    }
+
+    /// The figures of which the theorem speaks, after the last call that was seen.
+    pub fn figures(&self) -> Vec<Bounded> {
+        let count = |severity: &Severity| {
+            let named = [self.change.listed, self.change.changed].contains(severity);
+            let bound = if named { Bound::AtMostOne } else { Bound::Equal };
+            let values = self.at_end.map(|active| active.of_severity[usize::from(severity.byte())]);
+            Bounded { severity: Some(*severity), values, bound }
+        };
+        let length = Bounded { severity: None, values: self.at_end.map(|active| active.length), bound: Bound::Equal };
+        std::iter::once(length).chain(Severity::ALL.iter().map(count)).collect()
+    }
+
+    /// The first bound that did not hold, and where.
+    pub fn broken(&self) -> Option<&str> {
+        self.broken.as_deref()
+    }
+
+    /// What is to be said aloud where a bound does not hold.
+    pub fn fault(&self) -> Option<String> {
+        let damaged = damaged("to keep it");
+        self.broken().map(|broken| format!("a bound does not hold: {broken}; {damaged}"))
+    }
+}
+
+#[cfg(test)]
+mod tests {
+    use super::{Active, Bounds, Differing};
+    use crate::change::Change;
+    use crate::list::List;
+    use crate::replay::Step;
+    use crate::text::Zone;
+    use alarm_register::{Limits, Object, Operation, Raise, Refusal, Register, Severity, Time, ANSWER_ROOM, RECORD_WIDTH};
+
+    fn raise(id: &str, severity: Severity) -> Vec<u8> {
+        Raise::new(Time(0), id, "t", severity, "lease-lost", Object::Tenant { tenant: id }).call().as_bytes().to_vec()
+    }
+
+    /// The bounds of a list whose second call is changed from minor to major.
+    fn bounds() -> Bounds {
+        let calls = vec![vec![11], raise("a", Severity::Minor)];
+        let list = List { limits: Limits { active: 2, history: 3, audit: 1 }, answer: None, calls };
+        Bounds::of(Change::of(&list, 2, Severity::Major, Zone::default()).unwrap())
+    }
+
+    fn active(length: usize, of_severity: [usize; 6]) -> Active {
+        Active { length, of_severity }
+    }
+
+    const LISTED: Active = Active { length: 9, of_severity: [1, 1, 1, 3, 2, 1] };
+
+    #[test]
+    fn figures_within_their_bounds_are_no_fault() {
+        for (length, of_severity) in [(9, [1, 1, 1, 3, 2, 1]), (9, [1, 1, 1, 2, 3, 1]), (9, [1, 1, 1, 4, 1, 1])] {
+            let mut bounds = bounds();
+            bounds.add(3, [LISTED, active(length, of_severity)]);
+            assert_eq!(bounds.fault(), None, "{of_severity:?}");
+        }
+    }
+
+    #[test]
+    fn each_figure_outside_its_bound_is_told_with_the_first_such_call() {
+        let wrong = [
+            (8, [1, 1, 1, 2, 2, 1], "active alarms are 9 as listed and 8 as changed (bound: equal)"),
+            (9, [2, 1, 1, 2, 2, 1], "active cleared alarms are 1 as listed and 2 as changed (bound: equal)"),
+            (9, [1, 0, 1, 3, 3, 1], "active indeterminate alarms are 1 as listed and 0 as changed (bound: equal)"),
+            (9, [1, 1, 2, 2, 2, 1], "active warning alarms are 1 as listed and 2 as changed (bound: equal)"),
+            (9, [1, 1, 1, 1, 4, 1], "active minor alarms are 3 as listed and 1 as changed (bound: at most 1)"),
+            (9, [1, 1, 1, 3, 0, 1], "active major alarms are 2 as listed and 0 as changed (bound: at most 1)"),
+            (9, [1, 1, 1, 2, 2, 2], "active critical alarms are 1 as listed and 2 as changed (bound: equal)"),
+        ];
+        for (length, of_severity, said) in wrong {
+            let mut bounds = bounds();
+            bounds.add(7, [LISTED, active(length, of_severity)]);
+            bounds.add(8, [LISTED, active(0, [0; 6])]);
+            let then = "the register is proved to keep it, so its library or this program is damaged: use no figure of this run";
+            assert_eq!(bounds.fault(), Some(format!("a bound does not hold: after call 7 {said}; {then}")));
+        }
+    }
+
+    #[test]
+    fn calls_after_which_counts_differ_are_counted() {
+        let mut bounds = bounds();
+        let other = active(9, [1, 1, 1, 2, 3, 1]);
+        for (number, changed) in [(1, LISTED), (2, other), (3, LISTED), (4, other), (5, LISTED)] {
+            bounds.add(number, [LISTED, changed]);
+        }
+        assert_eq!(bounds.differing, Some(Differing { calls: 2, first: 2, last: 4 }));
+    }
+
+    #[test]
+    fn answered_policy_calls_behind_the_raise_end_the_bounds() {
+        let empty = [0; RECORD_WIDTH];
+        let both = |operation: &'static [u8], answered: bool| {
+            let got = if answered { Ok(&[][..]) } else { Err(Refusal::CallLength) };
+            [(); 2].map(|()| Step { call: operation, got, register: &empty })
+        };
+        let cases: [(usize, &[u8], bool, Option<usize>); 6] = [
+            (3, &[5], true, Some(3)),
+            (3, &[6], true, Some(3)),
+            (3, &[6], false, None),
+            (3, &[4], true, None),
+            (3, &[7], true, None),
+            (1, &[6], true, None),
+        ];
+        for (number, operation, answered, from) in cases {
+            let mut bounds = bounds();
+            bounds.see(number, &both(operation, answered));
+            bounds.see(9, &both(&[6], false));
+            assert_eq!(bounds.unbounded_from, from, "call {number}, operation {operation:?}");
+            bounds.add(10, [LISTED, active(0, [0; 6])]);
+            assert_eq!(bounds.fault().is_none(), from.is_some());
+        }
+        let mut one_run = bounds();
+        let ([refused, _], [_, answered]) = (both(&[6], false), both(&[6], true));
+        one_run.see(4, &[refused, answered]);
+        assert_eq!(one_run.unbounded_from, Some(4));
+    }
+
+    #[test]
+    fn active_counts_are_those_of_the_register() {
+        let limits = Limits { active: 7, history: 3, audit: 1 };
+        let (mut bytes, mut answer) = (vec![0; limits.register_length()], [0; ANSWER_ROOM]);
+        let mut register = Register::open(&mut bytes, limits).unwrap();
+        assert_eq!(Active::of(register.as_bytes()), Active::default());
+        for (id, severity) in ["a", "b", "c", "d", "e", "f", "g", "a"].into_iter().zip([5, 4, 4, 3, 0, 1, 2, 3]) {
+            register.step(&raise(id, Severity::from_byte(severity).unwrap()), &mut answer).unwrap();
+        }
+        assert_eq!(Active::of(register.as_bytes()), active(7, [1, 1, 1, 2, 2, 0]));
+    }
+}
