@@ -1,32 +1,11 @@
 //! What is bounded while one severity differs between two runs (theorem `reach`), and what was seen of it.
-use crate::chain;
+use crate::active::Active;
 use crate::change::Change;
 use crate::failure::damaged;
+use crate::figures;
 use crate::replay::Step;
-use alarm_register::layout::{alarm, header};
-use alarm_register::Severity;
+use alarm_register::{Refusal, Severity, HEAD_WIDTH};
 use std::fmt;
-
-const SEVERITIES: usize = Severity::ALL.len();
-
-/// How many alarms are active, in all and of each severity.
-#[derive(Clone, Copy, Debug, Default, PartialEq, Eq)]
-pub struct Active {
-    length: usize,
-    of_severity: [usize; SEVERITIES],
-}
-
-impl Active {
-    /// Those of a sound register, read from its active chain: an operation that lists them would cost as much as a call.
-    fn of(register: &[u8]) -> Active {
-        let [head, ..] = header::HEADS;
-        let mut of_severity = [0; SEVERITIES];
-        for record in chain::records(register, head) {
-            of_severity[usize::from(register[record + alarm::SEVERITY])] += 1;
-        }
-        Active { length: chain::length(register, head), of_severity }
-    }
-}
 
 /// By how much a figure may differ between the two runs.
 #[derive(Clone, Copy, Debug, PartialEq, Eq)]
@@ -46,7 +25,17 @@ impl fmt::Display for Bound {
     }
 }
 
-/// A figure of which the theorem speaks: the active length, or the active count of a severity.
+/// Whether a call returns and tells the same in both runs: one that lists nothing and asks no policy.
+fn keeps_head(call: &[u8]) -> bool {
+    matches!(call.first(), Some(1..=4 | 7 | 11))
+}
+
+/// What a call returned, and the head of its answer.
+fn told<'a>(step: &Step<'a>) -> Result<&'a [u8], Refusal> {
+    step.got.map(|answer| &answer[..HEAD_WIDTH.min(answer.len())])
+}
+
+/// A figure of the active chain: its length, or the count of a severity.
 #[derive(Debug)]
 pub struct Bounded {
     /// The severity whose alarms are counted; none: all.
@@ -112,6 +101,11 @@ impl Bounds {
         if number > self.change.number && steps.iter().any(answered_policy) {
             self.unbounded_from.get_or_insert(number);
         }
+        let [one, other] = steps;
+        if self.unbounded_from.is_none() && keeps_head(one.call) && told(one) != told(other) {
+            let broken = || format!("call {number} returns another number or another head as changed (bound: equal)");
+            self.broken.get_or_insert_with(broken);
+        }
         self.add(number, steps.each_ref().map(|step| Active::of(step.register)));
     }
 
@@ -128,7 +122,7 @@ impl Bounds {
         }
     }
 
-    /// The figures of which the theorem speaks, after the last call that was seen.
+    /// The figures of the active chain, after the last call that was seen.
     pub fn figures(&self) -> Vec<Bounded> {
         let count = |severity: &Severity| {
             let named = [self.change.listed, self.change.changed].contains(severity);
@@ -138,6 +132,16 @@ impl Bounds {
         };
         let length = Bounded { severity: None, values: self.at_end.map(|active| active.length), bound: Bound::Equal };
         std::iter::once(length).chain(Severity::ALL.iter().map(count)).collect()
+    }
+
+    /// The bound of a figure at the end of the list, if the theorem gives one. Calls by their answer are counted by codes, and
+    /// expired alarms by numbers, of answers whose heads are the same in both runs.
+    pub fn bound(&self, name: &str) -> Option<Bound> {
+        if self.unbounded_from.is_some() {
+            return None;
+        }
+        let active = self.figures().into_iter().find(|figure| figure.name() == name).map(|figure| figure.bound);
+        active.or(figures::is_by_answer(name).then_some(Bound::Equal))
     }
 
     /// The first bound that did not hold, and where.
@@ -154,12 +158,13 @@ impl Bounds {
 
 #[cfg(test)]
 mod tests {
-    use super::{Active, Bounds, Differing};
+    use super::{Bound, Bounds, Differing};
+    use crate::active::Active;
     use crate::change::Change;
     use crate::list::List;
     use crate::replay::Step;
     use crate::text::Zone;
-    use alarm_register::{Limits, Object, Operation, Raise, Refusal, Register, Severity, Time, ANSWER_ROOM, RECORD_WIDTH};
+    use alarm_register::{Limits, Object, Operation, Raise, Refusal, Severity, Time, RECORD_WIDTH};
 
     fn raise(id: &str, severity: Severity) -> Vec<u8> {
         Raise::new(Time(0), id, "t", severity, "lease-lost", Object::Tenant { tenant: id }).call().as_bytes().to_vec()
@@ -246,15 +251,55 @@ mod tests {
         assert_eq!(one_run.unbounded_from, Some(4));
     }
 
+    /// The fault of a call of an operation, number 3, that got one and the other.
+    fn fault_of(operation: u8, [one, other]: [Result<&[u8], Refusal>; 2]) -> Option<String> {
+        let (empty, call, mut bounds) = ([0; RECORD_WIDTH], [operation], bounds());
+        bounds.see(3, &[one, other].map(|got| Step { call: &call, got, register: &empty }));
+        bounds.fault()
+    }
+
     #[test]
-    fn active_counts_are_those_of_the_register() {
-        let limits = Limits { active: 7, history: 3, audit: 1 };
-        let (mut bytes, mut answer) = (vec![0; limits.register_length()], [0; ANSWER_ROOM]);
-        let mut register = Register::open(&mut bytes, limits).unwrap();
-        assert_eq!(Active::of(register.as_bytes()), Active::default());
-        for (id, severity) in ["a", "b", "c", "d", "e", "f", "g", "a"].into_iter().zip([5, 4, 4, 3, 0, 1, 2, 3]) {
-            register.step(&raise(id, Severity::from_byte(severity).unwrap()), &mut answer).unwrap();
+    fn numbers_and_heads_that_differ_are_told_of_calls_that_keep_them() {
+        let (whole, mut code, mut number, mut body) = ([7; 20], [7; 20], [7; 20], [7; 20]);
+        (code[0], number[15], body[16]) = (8, 8, 8);
+        let refused = |refusal| -> Result<&[u8], Refusal> { Err(refusal) };
+        let differing = [
+            [Ok(&whole[..]), Ok(&code[..])],
+            [Ok(&whole), Ok(&number)],
+            [Ok(&whole), Ok(&whole[..15])],
+            [Ok(&whole), refused(Refusal::AnswerLength)],
+            [refused(Refusal::CallLength), refused(Refusal::AnswerLength)],
+        ];
+        for (operation, got) in (1..=12).flat_map(|operation| differing.map(|got| (operation, got))) {
+            let kept = [1, 2, 3, 4, 7, 11].contains(&operation);
+            assert_eq!(fault_of(operation, got).is_some(), kept, "operation {operation}: {got:?}");
         }
-        assert_eq!(Active::of(register.as_bytes()), active(7, [1, 1, 1, 2, 2, 0]));
+        for same in [[Ok(&whole[..]), Ok(&body[..])], [refused(Refusal::AnswerLength); 2]] {
+            assert_eq!(fault_of(1, same), None, "{same:?}");
+        }
+        let said = "a bound does not hold: call 3 returns another number or another head as changed (bound: equal); the register";
+        assert!(fault_of(7, differing[0]).unwrap().starts_with(said));
+    }
+
+    #[test]
+    fn figures_have_their_bounds_until_a_policy_call_is_answered() {
+        let mut bounds = bounds();
+        let (equal, one) = (Some(Bound::Equal), Some(Bound::AtMostOne));
+        let figures = [("active at end", equal), ("active at end minor", one), ("active at end major", one)];
+        let others = [("active at end critical", equal), ("raised", equal), ("expired", equal), ("not found", equal)];
+        let none = [
+            "calls",
+            "refused",
+            "refused 30",
+            "worst at end",
+            "history entries at end",
+            "active at end minor lease-lost",
+            "raises lease-lost",
+        ];
+        for (name, bound) in figures.into_iter().chain(others).chain(none.map(|name| (name, None))) {
+            assert_eq!(bounds.bound(name), bound, "{name}");
+        }
+        bounds.unbounded_from = Some(4);
+        assert!(figures.iter().chain(&others).all(|(name, _)| bounds.bound(name).is_none()));
     }
 }

@@ -1,6 +1,7 @@
 //! A list of calls in which one raise has another severity.
 use crate::list::List;
 use crate::text::{self, Zone};
+use alarm_register::layout::longest;
 use alarm_register::Severity;
 
 /// The operation byte of a raise.
@@ -9,6 +10,9 @@ const RAISE: u8 = 1;
 const ID_AT: usize = 9;
 /// More of a call is not told.
 const MOST_TOLD: usize = 200;
+/// Why a raise has no severity.
+const ENDS: &str = "ends before its severity";
+const REFUSED: &str = "is refused for its id or its type, and so has no severity";
 
 /// One raise of a list, and its two severities.
 #[derive(Clone, Debug, PartialEq, Eq)]
@@ -33,7 +37,7 @@ impl Change {
         if call.first() != Some(&RAISE) {
             return Err(fault("is no raise"));
         }
-        let at = severity_at(call).ok_or_else(|| fault("ends before its severity"))?;
+        let at = severity_at(call).map_err(fault)?;
         let listed = Severity::from_byte(call[at])
             .ok_or_else(|| fault(&format!("has {} as its severity, and a severity is 0 to 5", call[at])))?;
         if listed == changed {
@@ -64,13 +68,23 @@ fn told(call: &[u8], zone: Zone) -> String {
     }
 }
 
-/// Where the severity of a raise stands: behind its id and its type, each of which has its length before it.
-fn severity_at(raise: &[u8]) -> Option<usize> {
-    let behind = |at: usize| {
-        let length = u32::from_be_bytes(raise.get(at..)?.first_chunk().copied()?);
-        at.checked_add(4)?.checked_add(usize::try_from(length).ok()?)
-    };
-    behind(ID_AT).and_then(behind).filter(|at| *at < raise.len())
+/// Where the severity of a raise stands, behind its id and its type, or why it has none.
+fn severity_at(raise: &[u8]) -> Result<usize, &'static str> {
+    let behind_id = behind(raise, ID_AT, longest::ID)?;
+    let at = behind(raise, behind_id, longest::TYPE)?;
+    if at < raise.len() {
+        Ok(at)
+    } else {
+        Err(ENDS)
+    }
+}
+
+/// What stands behind a string, which has its length before it. A string that is refused has no field behind it.
+fn behind(raise: &[u8], at: usize, longest: usize) -> Result<usize, &'static str> {
+    let length = raise.get(at..).and_then(<[u8]>::first_chunk).map(|bytes| u32::from_be_bytes(*bytes)).ok_or(ENDS)?;
+    let length = usize::try_from(length).ok().filter(|length| *length <= longest).ok_or(REFUSED)?;
+    let end = at + 4 + length;
+    std::str::from_utf8(raise.get(at + 4..end).ok_or(ENDS)?).map_err(|_| REFUSED).map(|_| end)
 }
 
 #[cfg(test)]
@@ -106,12 +120,23 @@ mod tests {
     fn a_severity_is_there_once_its_byte_is() {
         let whole = raise();
         for length in 0..=whole.len() {
-            assert_eq!(severity_at(&whole[..length]), (length > 25).then_some(25), "{length} bytes");
+            let wanted = if length > 25 { Ok(25) } else { Err("ends before its severity") };
+            assert_eq!(severity_at(&whole[..length]), wanted, "{length} bytes");
         }
-        let mut endless = whole;
-        endless[9..13].fill(255);
-        assert_eq!(severity_at(&endless), None);
-        assert!(fault(endless).starts_with("call 1 ends before its severity: raw 01"));
+    }
+
+    #[test]
+    fn a_raise_that_is_refused_for_its_id_or_type_has_no_severity() {
+        let refused = "is refused for its id or its type, and so has no severity";
+        for (at, bytes) in [(9, &[255; 4][..]), (9, &[0, 0, 0, 65]), (13, &[0xff]), (16, &[0, 0, 0, 65]), (20, &[0xc0])] {
+            let mut raise = raise();
+            raise[at..at + bytes.len()].copy_from_slice(bytes);
+            assert_eq!(severity_at(&raise), Err(refused), "{bytes:?} at {at}");
+            assert!(fault(raise).starts_with(&format!("call 1 {refused}: raw 01")));
+        }
+        let long = "i".repeat(64);
+        let longest = Raise::new(Time(0), &long, &long, Severity::Minor, "lease-lost", Object::Tenant { tenant: "a" }).call();
+        assert_eq!(severity_at(longest.as_bytes()), Ok(9 + 2 * (4 + 64)));
     }
 
     #[test]

@@ -2,9 +2,20 @@
 use crate::replay::{Machine, Tally};
 use crate::table::{column, numbers, Cell, Table};
 use alarm_register::{code_name, CountActive, ListHistory, Operation, Refusal, Summarise, TakeAudit};
+use std::ops::RangeInclusive;
 
 /// A figure: its name and its value.
 pub type Figure = (String, String);
+
+/// The codes of answers that are counted by themselves.
+const CODES: RangeInclusive<u8> = 1..=10;
+/// The name of the numbers that expire calls gave, added up.
+const EXPIRED: &str = "expired";
+
+/// Whether a figure counts calls by their answer's code, or adds up the numbers that expire calls gave.
+pub fn is_by_answer(name: &str) -> bool {
+    name == EXPIRED || CODES.filter_map(code_name).any(|code| code == name)
+}
 
 /// The figures of a list, from its answers and the register at its end.
 pub fn of(machine: &Machine, tally: &Tally) -> Result<Vec<Figure>, Refusal> {
@@ -14,11 +25,11 @@ pub fn of(machine: &Machine, tally: &Tally) -> Result<Vec<Figure>, Refusal> {
     for (number, often) in &tally.refused {
         add(format!("refused {number}"), often.calls.to_string());
     }
-    for code in 1..=10 {
+    for code in CODES {
         let name = code_name(code).unwrap_or_default();
         add(name.to_string(), tally.answers(code).to_string());
     }
-    add("expired".to_string(), tally.balance.expired.to_string());
+    add(EXPIRED.to_string(), tally.balance.expired.to_string());
     at_end(machine, &mut add)?;
     for raises in &tally.causes {
         add(format!("alarms {}", raises.cause), raises.alarms.to_string());
@@ -61,8 +72,10 @@ pub fn table(figures: &[Figure]) -> Table {
 
 /// Whether a name can be that of a figure; whether it has one depends on the calls.
 fn known(name: &str, counted: &[Figure]) -> bool {
-    let opens = ["refused ", "alarms ", "raises ", "active at end "];
-    counted.iter().any(|(figure, _)| figure == name) || opens.iter().any(|open| name.starts_with(open))
+    let opens = ["refused ", "alarms ", "raises "];
+    // a severity and a cause: `station reach` shows counts of a severity alone, which a recount does not have
+    let at_end = name.strip_prefix("active at end ").is_some_and(|rest| rest.contains(' '));
+    counted.iter().any(|(figure, _)| figure == name) || at_end || opens.iter().any(|open| name.starts_with(open))
 }
 
 /// The figures of a report, or what is wrong with it. `counted` are those of the raw calls.
@@ -156,6 +169,9 @@ mod tests {
             .starts_with("line 3: there is no figure `cals`"));
         assert!(report("figure,value\ncalls,1,2\n", &counted).unwrap_err().starts_with("line 2: two fields"));
         assert!(report("figure,value\ncalls,1\ncalls,1\n", &counted).unwrap_err().ends_with("given twice"));
-        assert_eq!(report("figure,value\nraises other:a.b,7\n", &counted).unwrap().len(), 1);
+        assert_eq!(report("figure,value\nraises other:a.b,7\nactive at end major other:a.b,1\n", &counted).unwrap().len(), 2);
+        assert!(report("figure,value\nactive at end major,1\n", &counted)
+            .unwrap_err()
+            .contains("no figure `active at end major`"));
     }
 }

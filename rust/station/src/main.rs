@@ -1,4 +1,5 @@
 //! `station`: lists of calls to a station alarm register, for the desk.
+mod active;
 mod balance;
 mod beside;
 mod bounds;

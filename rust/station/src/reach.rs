@@ -1,6 +1,6 @@
 //! `station reach`: how far one wrong severity reaches into the figures of a list.
 use crate::beside::{self, Row};
-use crate::bounds::{Bounded, Bounds, Differing};
+use crate::bounds::{Bounds, Differing};
 use crate::change::Change;
 use crate::failure::{named, Failure, FINE, FOUND};
 use crate::figures::{self, Figure};
@@ -28,11 +28,13 @@ each severity are active at the end.
 
 Bounds, which are proved for every list of calls (theorem reach): after each call
 as many alarms are active in both runs; of the two severities that call N has, the
-active counts differ by at most 1; of every other severity they are equal. This
-ends with the first policy call behind call N (acknowledge-with-policy or
-suppress-with-policy) that is answered, since a critical severity may stop a
-suppression: from there on nothing is bounded. Refused calls do no harm, nor do
-policy calls before call N.
+active counts differ by at most 1; of every other severity they are equal. Calls
+by their answer (raised, updated, cleared and so on) and expired alarms are equal:
+raise, clear, acknowledge, suppress, expire and summary are refused alike in both
+runs, or answered with the same code and number. This ends with the first policy
+call behind call N (acknowledge-with-policy or suppress-with-policy) that is
+answered, since a critical severity may stop a suppression: from there on nothing
+is bounded. Refused calls do no harm, nor do policy calls before call N.
 
 Of other figures the theorem says nothing: where one is equal, that is shown for
 this list only. History is among them: whether a change gets an entry of its own
@@ -91,31 +93,23 @@ impl Shown {
     }
 }
 
-/// The figures of both runs, those of which the theorem speaks first.
+/// The figures of both runs, those of which the theorem speaks first: of the active chain, and by answers.
 fn rows(bounds: &Bounds, runs: &[Run; 2]) -> Result<Vec<Row>, String> {
     let counted = |place: usize| -> Result<Vec<Figure>, String> {
         let (machine, tally) = &runs[place];
         let others = figures::of(machine, tally).map_err(|refusal| refusal.to_string())?;
         let own: Vec<Figure> = bounds.figures().iter().map(|figure| (figure.name(), figure.values[place].to_string())).collect();
         let not_own = others.into_iter().filter(|(name, _)| own.iter().all(|(known, _)| known != name));
-        Ok(own.iter().cloned().chain(not_own).collect())
+        let (by_answer, rest): (Vec<Figure>, Vec<Figure>) = not_own.partition(|(name, _)| figures::is_by_answer(name));
+        Ok([own.clone(), by_answer, rest].concat())
     };
     let (listed, changed) = (counted(0)?, counted(1)?);
     Ok(beside::rows(beside::merged(&listed, &changed), &listed, &changed))
 }
 
-/// The figures that are bounded at the end of the list.
-fn bounded_at_end(bounds: &Bounds) -> Vec<Bounded> {
-    if bounds.unbounded_from.is_some() {
-        return Vec::new();
-    }
-    bounds.figures()
-}
-
 fn table(rows: &[Row], bounds: &Bounds) -> Table {
-    let bounded = bounded_at_end(bounds);
     let cells = |row: &Row| {
-        let bound = bounded.iter().find(|figure| figure.name() == row.name).map(|figure| figure.bound);
+        let bound = bounds.bound(&row.name);
         let (listed, changed) = (Cell::of(&row.first), Cell::of(row.second_or_absent()));
         vec![Cell::of(&row.name), listed, changed, Cell::maybe(row.difference()), Cell::maybe(bound)]
     };
@@ -131,8 +125,9 @@ fn table(rows: &[Row], bounds: &Bounds) -> Table {
 fn sentences(bounds: &Bounds, calls: usize) -> Vec<String> {
     let Change { number, listed, changed, .. } = &bounds.change;
     let bound = format!(
-        "as many alarms are active in both runs, the counts of {listed} and {changed} differ by at most 1, and those of every \
-         other severity are equal. That is proved for every list of calls (theorem reach)"
+        "as many alarms are active in both runs, the counts of {listed} and {changed} differ by at most 1, those of every other \
+         severity are equal, and calls that list nothing and ask no policy are refused alike, or answered with the same code and \
+         number. That is proved for every list of calls (theorem reach)"
     );
     let reach = match bounds.unbounded_from {
         None => format!("Bounded after every call: {bound}."),

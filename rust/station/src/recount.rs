@@ -112,7 +112,7 @@ fn beside(counted: &[Figure], reported: &[Figure], partial: bool) -> Vec<Row> {
 fn table(against: &str, rows: &[Row]) -> Table {
     let cells = |row: &Row| {
         let reported = row.second.as_deref().unwrap_or("left out");
-        vec![Cell::of(&row.name), Cell::of(&row.first), Cell::of(reported), Cell::of(row.difference().unwrap_or_default())]
+        vec![Cell::of(&row.name), Cell::of(&row.first), Cell::of(reported), Cell::maybe(row.difference())]
     };
     Table {
         name: "figures",
