@@ -25,7 +25,7 @@ def recounted(_root):
         yield "a list's own figures are not equal to it"
     works("recount", MONTH, "--against", saved("semicolons.csv", true.replace(",", ";")))
     spoilt = json.loads(works("recount", MONTH, "--against", saved("spoilt.csv", true.replace("updated,3324", "updated,3325")), "--json", status=1))
-    if spoilt["differing"] != 1 or [row["difference"] for row in spoilt["figures"] if row["difference"]] != ["+1"]:
+    if spoilt["differing"] != 1 or [row["difference"] for row in spoilt["figures"] if row["difference"] is not None] != ["+1"]:
         yield f"one changed figure gives {spoilt}"
     if "\ncalls,3344,03344,differs\n" not in works("recount", MONTH, "--against", "-", "--csv", given=true.replace(",3344", ",03344"), status=1).decode():
         yield "a number that is written otherwise differs by +0"
