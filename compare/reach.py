@@ -1,13 +1,12 @@
 """How far one wrong severity reaches: M-113 of document 02, over document 01's calls and docs/layout.json, and not from the definition.
 
 Two lists differ only in the legal severity byte of one raise. After every call their active lengths are equal, and so is the active count
-of each severity but the two entered ones; the counts of these two differ by at most one. Operations 1 to 4, 7 and 11 return the same
+of each severity but the two entered ones; of each of these the list that has it may count one alarm more. Operations 1 to 4, 7 and 11 return the same
 number in both, and answer with the same head of 16 bytes.
 
-Part of this reading was given and not found independently, and would be wrong here where it is wrong there: policy calls are left aside
-only behind the raise and only where they are answered, and from the first of them on nothing is checked; refused calls may stand in the
-lists, whatever their first byte, and answer slices may be short; severities that were not entered keep their counts; what is said of
-numbers and heads; and the lists may begin with any sound register.
+What the documents leave open is read as docs/DECISIONS.md, 2.3, reads it: a wrong reading there would be one here too. Policy calls are left
+aside only behind the raise and only where they are answered, and from the first of them on nothing is checked; refused calls may stand in
+the lists, whatever their first byte, and answer slices may be short; and the lists may begin with any sound register.
 """
 import collections
 import itertools
@@ -114,7 +113,8 @@ def broken(one, other, severities):
     if one.length != other.length:
         return f"active lengths {one.length} and {other.length}"
     for severity, (n, m) in enumerate(zip(one.counts, other.counts)):
-        if abs(n - m) > (1 if severity in severities else 0):
+        least, most = (-1 if severity in severities[1:] else 0), (1 if severity in severities[:1] else 0)
+        if not least <= n - m <= most:
             return f"{n} and {m} active alarms of severity {severity}; entered were {severities}"
     return None
 

@@ -13,7 +13,7 @@ import generate
 import standin
 import test_balance
 import test_reach
-import test_reach_heads
+import test_reach_figures
 from calls import call
 from checklist import run
 from differential import Case, Tools, checked, fault_of, masked_register, modelled, report, shrunk
@@ -93,7 +93,7 @@ CHECKS = {
     "the mask": mask,
     **test_balance.CHECKS,
     **test_reach.CHECKS,
-    **test_reach_heads.CHECKS,
+    **test_reach_figures.CHECKS,
 }
 
 if __name__ == "__main__":

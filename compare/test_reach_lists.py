@@ -10,7 +10,7 @@ import generate
 import model
 import reach
 from calls import call
-from differential import modelled
+from differential import Outcome, modelled
 from orders import Step
 from records import LAYOUT, WIDTH
 from soundness import sound_chains
@@ -34,7 +34,7 @@ class Registers:
     def __init__(self, start):
         self.packed, self.numbers = [], {}
         self.start = self.number(bytes(start))
-        self.step, self.active = functools.cache(self.stepped), functools.cache(lambda n: reach.in_register(self.register(n)))
+        self.outcome, self.active = functools.cache(self.stepped), functools.cache(lambda n: reach.in_register(self.register(n)))
 
     def number(self, register):
         packed = zlib.compress(register, 1)
@@ -47,9 +47,17 @@ class Registers:
         return bytearray(zlib.decompress(self.packed[n]))
 
     def stepped(self, n, data):
-        register = self.register(n)
-        model.step(register, data, bytearray(1552))
-        return self.number(bytes(register))
+        """The register that a call leaves, and what it returned and told."""
+        register, answer = self.register(n), bytearray(1552)
+        found, length = model.step(register, data, answer)
+        return self.number(bytes(register)), Outcome(found, length, answer[:16], None)
+
+    def step(self, n, data):
+        return self.outcome(n, data)[0]
+
+    def told(self, pair, data):
+        """What breaks the law between what a call told on both registers of a pair."""
+        return reach.told(Step(data, 1552), *(self.outcome(n, data)[1] for n in pair[:2]))
 
     def mistakes(self, n):
         """The pairs of registers behind a raise with two severities."""
@@ -67,10 +75,11 @@ def searched(start, calls, length):
     reached, pairs = {registers.start}, set()
     singles, behind = set(reached), set()
     for _ in range(length):
+        fault = next(filter(None, (registers.told(pair, data) for pair in behind for data in calls)), None)
         behind = {(registers.step(one, data), registers.step(other, data), entered) for one, other, entered in behind for data in calls}
         behind |= {pair for n in singles for pair in registers.mistakes(n)}
         behind = {pair for pair in behind - pairs if pair[0] != pair[1]}
-        fault = next(filter(None, (registers.broken(*pair) for pair in behind)), None)
+        fault = fault or next(filter(None, (registers.broken(*pair) for pair in behind)), None)
         singles = {registers.step(n, data) for n in singles for data in calls} - reached
         reached, pairs = reached | singles, pairs | behind
         if fault or not (behind or singles):

@@ -5,7 +5,7 @@ use mathlib.Core.Path.{_≡_}
 use mathlib.Core.List.{List, [], _∷_, _++_, map}
 use mathlib.Core.Bool.{Bool, false, not, _&&_, _||_}
 use lib.Dec.{T, eqb}
-use lib.ListN.{length, take}
+use lib.ListN.{length, take, drop}
 use Rattle.octets.specs.Bytes.{Bytes}
 use Rattle.definition.specs.Limits.{shortLimit}
 use Rattle.definition.specs.Reader.{got, Reader, _>>=_, give, number, text}
@@ -45,9 +45,9 @@ pub record OneApart (v v′ : ℕ) (l l′ : List (Bytes × ℕ)) : Type 0 where
   pub later : List (Bytes × ℕ)
   pub call : Bytes
   pub call′ : Bytes
-  pub room : ℕ
-  pub is : l ≡ earlier ++ ((call, room) ∷ later)
-  pub is′ : l′ ≡ earlier ++ ((call′, room) ∷ later)
+  pub answerLength : ℕ
+  pub is : l ≡ earlier ++ ((call, answerLength) ∷ later)
+  pub is′ : l′ ≡ earlier ++ ((call′, answerLength) ∷ later)
   pub apart : SeverityApart v v′ call call′
 
 -- they were made, one from the register b and the other from b′
@@ -69,6 +69,10 @@ abbrev pub NoPolicy : List Made → Type 0
 NoPolicy [] = Unit {0}
 NoPolicy (m ∷ l) = (isPolicy (operation m) && isAnswered m ≡ false) × NoPolicy l
 
+-- the calls behind the raise: up to it both lists keep one register
+abbrev pub behind : {v v′ : ℕ} {b b′ : Bytes} {l l′ : List Made} → MadeApart v v′ b b′ l l′ → List Made → List Made
+behind d k = drop (suc (length (d .apart .earlier))) k
+
 -- ---- "after every call the active lengths are equal, and the active count of each severity differs by at most one"
 
 -- how many active alarms have the severity u; as for operation 8, 255 stands for all
@@ -80,11 +84,12 @@ pub record WithinOne (x y : ℕ) : Type 0 where
   pub above : x ≤ suc y
   pub below : y ≤ suc x
 
--- of two registers, where the raise has the severities v and v′: counts of other severities do not differ
+-- of two registers, where the raise has the severities v and v′: of v alone the first can have the more alarms, of v′ alone the second
 pub record Bounded (v v′ : ℕ) (b b′ : Bytes) : Type 0 where
   pub lengths : activeLength b ≡ activeLength b′
   pub counts : (u : ℕ) → WithinOne (activeCount u b) (activeCount u b′)
-  pub others : (u : ℕ) → (u ≡ v → ⊥) → (u ≡ v′ → ⊥) → activeCount u b ≡ activeCount u b′
+  pub first : (u : ℕ) → (u ≡ v → ⊥) → activeCount u b ≤ activeCount u b′
+  pub second : (u : ℕ) → (u ≡ v′ → ⊥) → activeCount u b′ ≤ activeCount u b
 
 -- operations 1 to 4, 7 and 11: those that ask for a record's room, without policy calls
 abbrev pub keepsHead : ℕ → Bool
@@ -94,8 +99,8 @@ keepsHead op = asksRecord op && not (isPolicy op)
 abbrev pub answerHead : Made → Bytes
 answerHead m = take 16 (take (m .length) (m .answer))
 
--- of two calls at the same place: besides, these operations return the same number and answer with the same head. So no count of answers
--- by their code is spoilt, and no number of expired alarms
+-- of two calls at the same place. These operations return the same number besides, and answer with the same head: no count of their
+-- answers by code is spoilt, and no number of expired alarms
 pub record BoundedAfter (v v′ : ℕ) (m m′ : Made) : Type 0 where
   pub registers : Bounded v v′ (m .register) (m′ .register)
   pub heads : T (keepsHead (operation m)) → (m .number ≡ m′ .number) × (answerHead m ≡ answerHead m′)
@@ -114,11 +119,11 @@ Requested (m ∷ l) = Among (operation m) requestedOperations × (m .number ≡ 
 pub record Reach : Type 0 where
   -- "from equal fresh registers", opened with the same limits. With equal answer lengths it holds for all lengths: operations 1 to 4 and 7 ask
   -- for the same room in both lists, and the others leave the active chain as it is, answered or not
-  pub fresh : (a h e v v′ : ℕ) (b b′ : Bytes) (l l′ : List Made) → Fresh a h e b → Fresh a h e b′ → MadeApart v v′ b b′ l l′ →
-      NoPolicy l → NoPolicy l′ → AtEach (BoundedAfter v v′) l l′
+  pub fresh : (a h e v v′ : ℕ) (b b′ : Bytes) (l l′ : List Made) → Fresh a h e b → Fresh a h e b′ → (d : MadeApart v v′ b b′ l l′) →
+      NoPolicy (behind d l) → NoPolicy (behind d l′) → AtEach (BoundedAfter v v′) l l′
   -- the request's own sentence
   pub requested : (a h e v v′ : ℕ) (b b′ : Bytes) (l l′ : List Made) → Fresh a h e b → Fresh a h e b′ → MadeApart v v′ b b′ l l′ →
       Requested l → Requested l′ → AtEach (BoundedAfter v v′) l l′
   -- from any sound register, as a running cabinet has it
-  pub onward : (v v′ : ℕ) (b : Bytes) (l l′ : List Made) → T (sound b) → MadeApart v v′ b b l l′ → NoPolicy l → NoPolicy l′ →
+  pub onward : (v v′ : ℕ) (b : Bytes) (l l′ : List Made) → T (sound b) → (d : MadeApart v v′ b b l l′) → NoPolicy (behind d l) → NoPolicy (behind d l′) →
       AtEach (BoundedAfter v v′) l l′

@@ -1,5 +1,5 @@
--- Demand 3, the balance and the reach of one wrong severity, on what the entry points promise; that a sound register stays sound; which numbers are given; and that no call takes
--- from a free chain that has ended.
+-- Demand 3, the balance and the reach of one wrong severity, on what the entry points promise; that a sound register stays sound; which numbers
+-- are given; and that no call takes from a free chain that has ended.
 use Prim.Native.Nat.{ℕ, _+_, _*_}
 use mathlib.Core.Path.{_≡_, refl}
 use mathlib.Core.List.{_∷_}
@@ -36,8 +36,8 @@ whole-lists = claim
 pub balance : Balance
 balance = balanced
 
--- M-113, "How far one wrong severity reaches": equal active lengths, and counts of each severity that differ by one at most. `Reach` speaks of
--- the same promises
+-- M-113, "How far one wrong severity reaches": without policy calls behind the raise, equal active lengths, and counts of each severity that
+-- differ by one at most. `Reach` speaks of the same promises
 pub reach : Reach
 reach = reached
 

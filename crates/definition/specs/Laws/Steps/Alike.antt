@@ -10,8 +10,8 @@ use native.Mathlib.Omega.{arith}
 use lib.ListN.{length, drop}
 use Rattle.octets.specs.Bytes.{Bytes, same}
 use Rattle.definition.specs.Value.{RaiseValue, Action}
-use Rattle.definition.specs.Chain.{Entry, entry, onContent, times}
-use Rattle.definition.specs.Alarm.{Alarm}
+use Rattle.definition.specs.Chain.{Entry, entry, onContent}
+use Rattle.definition.specs.Alarm.{Alarm, isDue}
 use Rattle.definition.specs.Station.{Station, Step, _>>=_, onActive, withActive, nextFree, addActive, freeActive, changeActive}
 use Rattle.definition.specs.Answer.{Answer, Raised, Updated}
 use Rattle.definition.specs.Steps.{intoHistory, updatedBy, newAlarm, clearedBy, actionAnswer, actedOn, expiredBy}
@@ -65,10 +65,10 @@ worded t d c = record { head = c .head; key = c .key; text = t; details = d }
 
 -- what a likeness must meet
 pub record Lasting (k : Likeness) : Type 0 where
-  -- what is searched for
+  -- what is searched for, and which alarms are due
   pub keys : {e e′ : Entry Alarm} → k .Pair e e′ → e .content .key ≡ e′ .content .key
   pub ids : {e e′ : Entry Alarm} → k .Pair e e′ → e .content .id ≡ e′ .content .id
-  pub times : {e e′ : Entry Alarm} → k .Pair e e′ → e .content .updatedAt ≡ e′ .content .updatedAt
+  pub due : {e e′ : Entry Alarm} (t : ℕ) → k .Pair e e′ → isDue t (e .content) ≡ isDue t (e′ .content)
   -- changes
   pub updates : {e e′ : Entry Alarm} {c : RaiseValue} {t : Bytes} {d : Option Bytes} → k .Raise c (worded t d c) → k .Pair e e′ →
       k .Pair (onContent (updatedBy c) e) (onContent (updatedBy (worded t d c)) e′)

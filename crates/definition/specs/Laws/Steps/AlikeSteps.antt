@@ -13,8 +13,8 @@ use Rattle.octets.specs.Bytes.{Bytes, same}
 use Rattle.definition.specs.Value.{RaiseValue, ClearValue, PlainValue, Action, acknowledging, suppressing}
 use Rattle.definition.specs.Key.{keyOf}
 use Rattle.definition.specs.Laws.Text.Key.{length-key}
-use Rattle.definition.specs.Chain.{Entry, entry, times}
-use Rattle.definition.specs.Alarm.{Alarm, hasKey, hasId, before}
+use Rattle.definition.specs.Chain.{Entry, entry}
+use Rattle.definition.specs.Alarm.{Alarm, hasKey, hasId}
 use Rattle.definition.specs.Station.{Station, Step, give, forEach}
 use Rattle.definition.specs.Answer.{Answer, Updated, ActiveLimitExceeded}
 use Rattle.definition.specs.Steps.{change, retire, updatedBy, newAlarm, store, storeNew, raiseAt, raise, clearAt, clear, actionAnswer, actedOn, act, plainAt, plain, isDueEntry, retireDue, expire}
@@ -140,7 +140,7 @@ module _ {k : Likeness} (l : Lasting k) where
   expire-like {n} t h =
       bind-related {Q = λ d d′ s r. (length d ≡ length d′) × On k n d d′ s r}
       (look-related (λ s r p.
-      let z = those-each (k .Pair) (isDueEntry t) (λ e e′ q. ap (λ u. before u t) (l .times q)) (s .active) (r .active) (p .pairs) in
+      let z = those-each (k .Pair) (isDueEntry t) (λ e e′ q. l .due t q) (s .active) (r .active) (p .pairs) in
       (picked-length z, pick l p z)))
       (λ d d′. known-related (λ s r p. p .0) (λ q. pre-related (λ s r p. p .1) (then-related (retires-like t h d d′)
       (rw q (give-related (λ s r p. record { says = l .saysSame _; kind = refl; even = omega (arith, p .1); on = p .0 }))))))

@@ -9,18 +9,15 @@ use Rattle.octets.specs.Bytes.{Bytes, ascii, numberAt, at32}
 use Rattle.definition.specs.Parse.{severityOrAll}
 use Rattle.definition.specs.Answer.{alarmRecords}
 use Rattle.definition.specs.Reports.{activeList}
-use Rattle.definition.specs.Station.{fresh}
-use Rattle.definition.specs.Sound.{sound}
-use Rattle.definition.specs.Laws.Steps.StationBook.{fresh-legalStation}
-use Rattle.definition.specs.Laws.Steps.SoundStation.{legal-sound}
 use Rattle.definition.specs.Lists.{Reply, run}
 use Rattle.definition.specs.Twins.{AtEach}
-use Rattle.definition.specs.Claim.{Made}
+use Rattle.definition.specs.Claim.{Fresh, Made}
 use Rattle.definition.specs.Reach.{beforeSeverity, SeverityApart, OneApart, MadeApart, BoundedAfter}
 use Rattle.definition.specs.Laws.Table.Calls.{sentBeforeSeverity, sentBehindSeverity, raiseAs, suppressByPolicy, expire}
 use Rattle.definition.specs.Laws.Table.Shown.{register, ample, repliesTo, left, answered, leaving}
 use Rattle.definition.specs.Laws.Table.Computed.{parsed}
 use Rattle.definition.specs.Laws.Table.Stations.{allOctets, computed, by-stations}
+use Rattle.definition.specs.Laws.Table.Marked.{marked}
 use Rattle.definition.specs.Laws.Table.RunMade.{madesOf, run-trace, run-octets, run-asked}
 
 -- in the header active_length 16, history_length 24
@@ -72,7 +69,7 @@ run-apart v v′ l l′ b t t′ d =
       apart = rw (run-asked l b, run-asked l′ b) d;
     }
 
--- such are two raises of the table, and lists with one of them each
+-- two raises of the table that are such
 raises-apart : (v v′ : ℕ) → v ≤ 5 → v′ ≤ 5 → SeverityApart v v′ (raiseAs v) (raiseAs v′)
 unfolding parsed beforeSeverity
 raises-apart v v′ h h′ =
@@ -87,12 +84,13 @@ raises-apart v v′ h h′ =
       legal′ = h′;
     }
 
--- ---- a policy call behind the raise would break it
+-- ---- with a policy call behind the raise it is false, already from fresh registers
 
 abbrev suppressed : ℕ → List (Bytes × ℕ)
 suppressed v = ample (raiseAs v) ∷ ample (suppressByPolicy 2 "a" 1) ∷ ample (expire 1) ∷ []
 
-pub policy-needed : ((v v′ : ℕ) (b : Bytes) (l l′ : List Made) → T (sound b) → MadeApart v v′ b b l l′ → AtEach (BoundedAfter v v′) l l′) → ⊥
+pub policy-needed :
+    ((a h e v v′ : ℕ) (b b′ : Bytes) (l l′ : List Made) → Fresh a h e b → Fresh a h e b′ → MadeApart v v′ b b′ l l′ → AtEach (BoundedAfter v v′) l l′) → ⊥
 unfolding allOctets computed repliesTo run
 policy-needed f =
     let d : OneApart 5 3 (suppressed 5) (suppressed 3) = record {
@@ -100,10 +98,10 @@ policy-needed f =
       later = ample (suppressByPolicy 2 "a" 1) ∷ ample (expire 1) ∷ [];
       call = raiseAs 5;
       call′ = raiseAs 3;
-      room = 65536;
+      answerLength = 65536;
       is = refl;
       is′ = refl;
       apart = raises-apart 5 3 (omega arith) (omega arith);
     } in
-    let r = f 5 3 register _ _ (legal-sound (fresh 2 3 1) (fresh-legalStation 2 3 1 (omega arith) (omega arith) (omega arith))) (run-apart 5 3 (suppressed 5) (suppressed 3) register tt tt d) in
+    let r = f 2 3 1 5 3 register register _ _ (marked .opening) (marked .opening) (run-apart 5 3 (suppressed 5) (suppressed 3) register tt tt d) in
     omega (arith, r .1 .1 .0 .registers .lengths, ap (λ x. x .1 .0) (what-differs .policy .0), ap (λ x. x .1 .0) (what-differs .policy .1))

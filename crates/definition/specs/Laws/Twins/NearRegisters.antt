@@ -29,9 +29,9 @@ use Rattle.definition.specs.Laws.Steps.PairedChains.{distinct, length-ea
 use Rattle.definition.specs.Laws.Steps.Alike.{On}
 use Rattle.definition.specs.Laws.Twins.KeptLegal.{perform-kept, stationAfter, legal-after, register-after}
 use Rattle.definition.specs.Laws.Twins.ClaimHolds.{made-reply, take-front, AlikeRegisters}
-use Rattle.definition.specs.Laws.Twins.NearStations.{Wrong, wrong, NearAt, near, alone, near-counts, near-others, severityCount}
+use Rattle.definition.specs.Laws.Twins.NearStations.{Wrong, wrong, NearAt, near, alone, near-counts, near-first, near-second, severityCount}
 use Rattle.definition.specs.Laws.Twins.NearSteps.{SameHeads, ApartAfter, near-call, call-apart}
-use Rattle.definition.specs.Laws.Twins.ReadApart.{ReadApart, alike, raises, apart-read}
+use Rattle.definition.specs.Laws.Twins.ReadApart.{ReadApart, same, raises, apart-read}
 
 -- ---- registers that are near
 
@@ -54,8 +54,8 @@ near-bounded w b b′ r =
       lengths = length-encoded b s (p .legal) (r .is-one) ∙ length-each (NearAt w) (s .active) (t .active) (p .pairs) ∙ sym (length-encoded b′ t (p .legal′) (r .is-two));
       counts = λ u. rw (count-encoded u b s (p .legal) (r .is-one), count-encoded u b′ t (p .legal′) (r .is-two))
           (near-counts w u (s .active) (t .active) (distinct s (p .legal .chains)) (p .pairs));
-      others = λ u n n′. rw (count-encoded u b s (p .legal) (r .is-one), count-encoded u b′ t (p .legal′) (r .is-two))
-          (near-others w u n n′ (s .active) (t .active) (p .pairs));
+      first = λ u n. rw (count-encoded u b s (p .legal) (r .is-one), count-encoded u b′ t (p .legal′) (r .is-two)) (near-first w u (s .active) (t .active) (p .pairs) n);
+      second = λ u n. rw (count-encoded u b s (p .legal) (r .is-one), count-encoded u b′ t (p .legal′) (r .is-two)) (near-second w u (s .active) (t .active) (p .pairs) n);
     }
 
 -- ---- a call on a legal station's bytes
@@ -157,24 +157,22 @@ near-made w b b′ m m′ r g g′ o o′ n n′ a =
     let x = near-call w (parseCall (m .call)) (length (m .former)) s t (call-legal (m .call) o) (λ h. (spared q n h, spared q′ n′ h)) (r .on) in
     follow q q′ w (x .on) (kept-heads p s t o (x .heads))
 
-module _ (b : Bytes) (h : T (sound b)) (m m′ : Made) (g : MadeOn b m) (g′ : MadeOn b m′) (o : Octets (m .call)) (o′ : Octets (m′ .call)) where
-  at : (p : Bytes × ℕ) → asked m ≡ p → MadeAt (station b) p b m
-  at p a = let l = sound-holds b h in record { legal = l .legal; is = sym (l .bytes); asks = a; made = g; octets = o }
+-- a call on a sound register
+on-register : (b : Bytes) (m : Made) → T (sound b) → MadeOn b m → Octets (m .call) → (p : Bytes × ℕ) → asked m ≡ p → MadeAt (station b) p b m
+on-register b m h g o p a = let l = sound-holds b h in record { legal = l .legal; is = sym (l .bytes); asks = a; made = g; octets = o }
 
-  at′ : (p : Bytes × ℕ) → asked m′ ≡ p → MadeAt (station b) p b m′
-  at′ p a = let l = sound-holds b h in record { legal = l .legal; is = sym (l .bytes); asks = a; made = g′; octets = o′ }
-
-  -- the same call twice on one register
-  pub same-made : (w : Wrong) → asked m ≡ asked m′ → Follow w m m′
-  same-made w a =
-      let l = sound-holds b h .legal in
-      let p = asked m′ in
-      follow (at p a) (at′ p refl) w (alone w _ (legal-after l (perform-kept (parseCall (p .0)) (p .1) (station b) (call-legal (p .0) o′) l))) (λ i. same-heads (outcome p (station b)))
+-- the same call twice on one register
+pub same-made : (w : Wrong) (b : Bytes) (m m′ : Made) → T (sound b) → MadeOn b m → MadeOn b m′ → Octets (m .call) → Octets (m′ .call) → asked m ≡ asked m′ → Follow w m m′
+same-made w b m m′ h g g′ o o′ a =
+    let l = sound-holds b h .legal in
+    let p = asked m′ in
+    follow (on-register b m h g o p a) (on-register b m′ h g′ o′ p refl) w
+    (alone w _ (legal-after l (perform-kept (parseCall (p .0)) (p .1) (station b) (call-legal (p .0) o′) l))) (λ i. same-heads (outcome p (station b)))
 
 -- calls that differ in the severity of a raise, on one station
 parsed-apart : {v v′ : ℕ} (s : Station) → LegalStation s → (n : ℕ) {c c′ : CallValue} → LegalCall c → LegalCall c′ → ReadApart v v′ c c′ →
     ApartAfter v v′ s (perform c n s) (perform c′ n s)
-parsed-apart s l n h h′ (alike c) = record { on = (0, alone _ _ (legal-after l (perform-kept c n s h l))); heads = same-heads (perform c n s) }
+parsed-apart s l n h h′ (same c) = record { on = (0, alone _ _ (legal-after l (perform-kept c n s h l))); heads = same-heads (perform c n s) }
 parsed-apart {v} {v′} s l n h h′ (raises c p) = rw (← p) (call-apart s l c v′ n h h′)
 
 -- the raise and the same with another severity, on one register
@@ -184,4 +182,4 @@ apart-made v v′ b m m′ h g g′ o o′ d e =
     let n = length (m .former) in
     let s = station b in
     let k = parsed-apart s (sound-holds b h .legal) n (call-legal (m .call) o) (call-legal (m′ .call) o′) (apart-read v v′ (m .call) (m′ .call) d) in
-    (k .on .0, follow (at b h m m′ g g′ o o′ (m .call, n) refl) (at′ b h m m′ g g′ o o′ (m′ .call, n) (ap (λ (i : ℕ). (m′ .call, i)) (sym e))) (wrong v v′ (k .on .0)) (k .on .1) (λ i. k .heads))
+    (k .on .0, follow (on-register b m h g o (m .call, n) refl) (on-register b m′ h g′ o′ (m′ .call, n) (ap (λ (i : ℕ). (m′ .call, i)) (sym e))) (wrong v v′ (k .on .0)) (k .on .1) (λ i. k .heads))

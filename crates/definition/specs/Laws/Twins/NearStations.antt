@@ -1,7 +1,7 @@
 -- M-113: stations that are near hold the same active alarms in the same order, but for the severity of one at most. Of histories nothing is said,
 -- for their sameness looks at severities; nor of the free chains, nor of where records lie. For NearSteps and ReachHolds.
 use Prim.Native.Nat.{ℕ, _+_, _≤_}
-use mathlib.Core.Path.{_≡_, refl, ap, ap₂}
+use mathlib.Core.Path.{_≡_, refl, sym, ap, ap₂}
 use mathlib.Core.List.{List, [], _∷_}
 use mathlib.Core.Bool.{Bool, true, false, cond, _||_}
 use mathlib.Core.Logic.{_⊎_, inl, inr}
@@ -12,7 +12,7 @@ use lib.ListN.{length}
 use borrow.Author.Tests.{ne-eqb}
 use Rattle.definition.specs.Value.{RaiseValue, Action, acknowledging, suppressing}
 use Rattle.definition.specs.Chain.{Entry, entry, contents, those, times}
-use Rattle.definition.specs.Alarm.{Alarm, withSeverity, hasSeverity}
+use Rattle.definition.specs.Alarm.{Alarm, withSeverity, hasSeverity, isDue}
 use Rattle.definition.specs.Station.{Station}
 use Rattle.definition.specs.Answer.{headOf}
 use Rattle.definition.specs.Steps.{updatedBy, newAlarm, actionAnswer, actedOn}
@@ -70,7 +70,7 @@ module _ (w : Wrong) where
   near-lasts = record {
     keys = λ h. ap (λ (a : Alarm). a .key) (h .alike);
     ids = λ h. ap (λ (a : Alarm). a .id) (h .alike);
-    times = λ h. ap (λ (a : Alarm). a .updatedAt) (h .alike);
+    due = λ t h. ap (isDue t) (h .alike);
     updates = λ r h. record {
       alike = ap₂ (λ (x : RaiseValue) (a : Alarm). withoutSeverity (updatedBy x a)) r (h .alike);
       same = λ n. ap₂ updatedBy r (h .same n);
@@ -128,7 +128,7 @@ count-cons u e c = go (hasSeverity u (e .content))
     go false = omega arith
 
 module _ (w : Wrong) where
-  -- where record j is not on the chain, no count differs
+  -- where the one alarm is not on the chain, no count differs
   without-apart : (u : ℕ) (c c′ : List (Entry Alarm)) → AtEach (NearAt w) c c′ → times (w .index) c ≡ 0 → severityCount u c ≡ severityCount u c′
   without-apart u [] [] h z = refl
   without-apart u [] (e ∷ c) h z = absurd h
@@ -152,14 +152,42 @@ module _ (w : Wrong) where
         record { above = omega (arith, q, r .above, count-cons u e c, count-cons u e′ c′); below = omega (arith, q, r .below, count-cons u e c, count-cons u e′ c′) })
   ]
 
-  -- other severities than the two
-  module _ (u : ℕ) (n : u ≡ w .severity → ⊥) (n′ : u ≡ w .severity′ → ⊥) where
-    other-hit : (a a′ : Alarm) → (a .severity ≡ a′ .severity) ⊎ ((a .severity ≡ w .severity) × (a′ .severity ≡ w .severity′)) → hit u a ≡ hit u a′
-    other-hit a a′ (inl p) = ap (λ (x : ℕ). cond (eqb u 255 || eqb u x) 1 0) p
-    other-hit a a′ (inr (p, p′)) = rw (p, p′, ne-eqb u (w .severity) n, ne-eqb u (w .severity′) n′)
+-- ---- which of the two has the more
 
-    pub near-others : (c c′ : List (Entry Alarm)) → AtEach (NearAt w) c c′ → severityCount u c ≡ severityCount u c′
-    near-others [] [] h = refl
-    near-others [] (e ∷ c) h = absurd h
-    near-others (e ∷ c) [] h = absurd h
-    near-others (e ∷ c) (e′ ∷ c′) h = omega (arith, other-hit (e .content) (e′ .content) (h .0 .severities), near-others c c′ (h .1), count-cons u e c, count-cons u e′ c′)
+-- an alarm has at most the hits of another that has its severity, or if its own is not asked for
+hit-fewer : (u v : ℕ) (a a′ : Alarm) → (u ≡ v → ⊥) → (a .severity ≡ a′ .severity) ⊎ (a .severity ≡ v) → hit u a ≤ hit u a′
+hit-fewer u v a a′ n (inl p) = omega (arith, ap {B = ℕ} (λ (x : ℕ). cond (eqb u 255 || eqb u x) 1 0) p)
+hit-fewer u v a a′ n (inr p) = rw (p, ne-eqb u v n) (go (eqb u 255) (eqb u (a′ .severity)))
+  where
+    go : (x y : Bool) → cond (x || false) 1 0 ≤ cond (x || y) 1 0
+    go true y = omega arith
+    go false true = omega arith
+    go false false = omega arith
+
+count-each : (u : ℕ) (P : Entry Alarm → Entry Alarm → Type 0) → ((e e′ : Entry Alarm) → P e e′ → hit u (e .content) ≤ hit u (e′ .content)) → (c c′ : List (Entry Alarm)) → AtEach P c c′ →
+    severityCount u c ≤ severityCount u c′
+count-each u P f [] [] h = omega arith
+count-each u P f [] (e ∷ c) h = absurd h
+count-each u P f (e ∷ c) [] h = absurd h
+count-each u P f (e ∷ c) (e′ ∷ c′) h = omega (arith, f e e′ (h .0), count-each u P f c c′ (h .1), count-cons u e c, count-cons u e′ c′)
+
+flipped : (P : Entry Alarm → Entry Alarm → Type 0) (c c′ : List (Entry Alarm)) → AtEach P c c′ → AtEach (λ e′ e. P e e′) c′ c
+flipped P [] [] h = tt
+flipped P [] (e ∷ c) h = absurd h
+flipped P (e ∷ c) [] h = absurd h
+flipped P (e ∷ c) (e′ ∷ c′) h = (h .0, flipped P c c′ (h .1))
+
+one-side : {x x′ v v′ : ℕ} → (x ≡ x′) ⊎ ((x ≡ v) × (x′ ≡ v′)) → (x ≡ x′) ⊎ (x ≡ v)
+one-side (inl p) = inl p
+one-side (inr p) = inr (p .0)
+
+other-side : {x x′ v v′ : ℕ} → (x ≡ x′) ⊎ ((x ≡ v) × (x′ ≡ v′)) → (x′ ≡ x) ⊎ (x′ ≡ v′)
+other-side (inl p) = inl (sym p)
+other-side (inr p) = inr (p .1)
+
+module _ (w : Wrong) (u : ℕ) (c c′ : List (Entry Alarm)) (h : AtEach (NearAt w) c c′) where
+  pub near-first : (u ≡ w .severity → ⊥) → severityCount u c ≤ severityCount u c′
+  near-first n = count-each u (NearAt w) (λ e e′ q. hit-fewer u (w .severity) (e .content) (e′ .content) n (one-side (q .severities))) c c′ h
+
+  pub near-second : (u ≡ w .severity′ → ⊥) → severityCount u c′ ≤ severityCount u c
+  near-second n = count-each u _ (λ e′ e q. hit-fewer u (w .severity′) (e′ .content) (e .content) n (other-side (q .severities))) c′ c (flipped (NearAt w) c c′ h)

@@ -45,47 +45,51 @@ raiseWith v c =
 abbrev pub NearBut : ℕ → ℕ → Station → Station → Type 0
 NearBut v v′ s t = (j : ℕ) × On (near (wrong v v′ j)) (length (s .active)) [] [] s t
 
+-- and answers with the same head
+abbrev AnsweredApart : ℕ → ℕ → Answer → Answer → Station → Station → Type 0
+AnsweredApart v v′ x y s t = (headOf x ≡ headOf y) × NearBut v v′ s t
+
 module _ (s : Station) (l : LegalStation s) (c : RaiseValue) (v′ : ℕ) (f : LegalRaise c) (f′ : LegalRaise (raiseWith v′ c)) where
   -- record j has the alarm that is raised
-  abbrev raisedAt : ℕ → Wrong
-  raisedAt j = wrong (c .head .severity) v′ j
+  abbrev wrongAt : ℕ → Wrong
+  wrongAt j = wrong (c .head .severity) v′ j
 
   abbrev Apart : Answer → Answer → Station → Station → Type 0
-  Apart x y s t = (headOf x ≡ headOf y) × NearBut (c .head .severity) v′ s t
+  Apart = AnsweredApart (c .head .severity) v′
 
-  apart-at : (j : ℕ) (a a′ : Alarm) → a .severity ≡ c .head .severity → a′ .severity ≡ v′ → withoutSeverity a ≡ withoutSeverity a′ → NearAt (raisedAt j) (entry j a) (entry j a′)
+  apart-at : (j : ℕ) (a a′ : Alarm) → a .severity ≡ c .head .severity → a′ .severity ≡ v′ → withoutSeverity a ≡ withoutSeverity a′ → NearAt (wrongAt j) (entry j a) (entry j a′)
   apart-at j a a′ p p′ h = record { alike = h; same = λ n. absurd (n refl); severities = inr (p, p′) }
 
   store-apart : (k : Bytes) → length k ≡ 16 → length (s .active) < s .limitA → Both Apart (store (newAlarm c k) s) (store (newAlarm (raiseWith v′ c) k) s)
   unfolding store newAlarm _>>=_
-  store-apart k h room =
-      let w = raisedAt (nextFree s) in
+  store-apart k h fits =
+      let w = wrongAt (nextFree s) in
       let g = new-legal c k f h in
       let g′ = new-legal (raiseWith v′ c) k f′ h in
       after-both _ _ (λ x y. then-related (near-lasts w .files tt (past _ g, past _ g′)) (give-related (λ t u p. (refl, (nextFree s, settled (near-lasts w) p)))))
-      (add-active-at (near-lasts w) s s (alone w s l, room) (g, g′) (apart-at (nextFree s) _ _ refl refl refl))
+      (add-active-at (near-lasts w) s s (alone w s l, fits) (g, g′) (apart-at (nextFree s) _ _ refl refl refl))
 
   raise-apart : Both Apart (raise c s) (raise (raiseWith v′ c) s)
   unfolding raise raiseAt storeNew newAlarm updatedBy _>>=_
-  raise-apart = go (first (hasKey k) (s .active)) (first-each (NearAt (raisedAt 0)) (hasKey k) (λ e e′ h. ap (λ (a : Alarm). hasKey k a) (h .alike)) (s .active) (s .active) (near-self (raisedAt 0) (s .active)))
+  raise-apart = go (first (hasKey k) (s .active)) (first-each (NearAt (wrongAt 0)) (hasKey k) (λ e e′ h. ap (λ (a : Alarm). hasKey k a) (h .alike)) (s .active) (s .active) (near-self (wrongAt 0) (s .active)))
     where
       k : Bytes
       k = keyOf (c .head .type) (c .key)
 
-      taken : (b : Bool) → length (s .active) < s .limitA → Both Apart (cond b (refuse 31) (store (newAlarm c k)) s) (cond b (refuse 31) (store (newAlarm (raiseWith v′ c) k)) s)
-      taken true room = neither {n = 31} tt
-      taken false room = store-apart k (length-key _ _) room
+      stored : (b : Bool) → length (s .active) < s .limitA → Both Apart (cond b (refuse 31) (store (newAlarm c k)) s) (cond b (refuse 31) (store (newAlarm (raiseWith v′ c) k)) s)
+      stored true fits = neither {n = 31} tt
+      stored false fits = store-apart k (length-key _ _) fits
 
       full : (b : Bool) → leb (s .limitA) (length (s .active)) ≡ b →
           Both Apart (cond b (limitExceeded k) (storeNew (newAlarm c k)) s) (cond b (limitExceeded k) (storeNew (newAlarm (raiseWith v′ c) k)) s)
-      full true h = both (refl, (0, alone (raisedAt 0) s l))
-      full false h = taken (present (first (hasId (c .head .id)) (s .active))) (leb-false (s .limitA) (length (s .active)) h)
+      full true h = both (refl, (0, alone (wrongAt 0) s l))
+      full false h = stored (present (first (hasId (c .head .id)) (s .active))) (leb-false (s .limitA) (length (s .active)) h)
 
-      go : (o : Option (Entry Alarm)) → Search (NearAt (raisedAt 0)) (s .active) (s .active) o o → Both Apart (raiseAt c k o s) (raiseAt (raiseWith v′ c) k o s)
+      go : (o : Option (Entry Alarm)) → Search (NearAt (wrongAt 0)) (s .active) (s .active) o o → Both Apart (raiseAt c k o s) (raiseAt (raiseWith v′ c) k o s)
       go none p = full (leb (s .limitA) (length (s .active))) refl
       go (some e) (found h q) =
           let j = e .index in
-          let w = raisedAt j in
+          let w = wrongAt j in
           let g = picked-holds _ q (l .fields .active) (l .fields .active) in
           post-related {Q′ = Apart} (λ x y t u p. (p .says, (j, p .on)))
           (change-like (near-lasts w) Updated (apart-at j _ _ refl refl refl) (updated-legal c (e .content) f (g .0), updated-legal (raiseWith v′ c) (e .content) f′ (g .1)) refl refl)
@@ -113,6 +117,11 @@ module _ {w : Wrong} {m : ℕ} {s t : Station} (p : On (near w) m [] [] s t) whe
       go : {o o′ : Outcome Answer} → Both (Told (near w) i m) o o′ → NearAfter w s t op o o′
       go (both q) = record { on = q .on; heads = λ h. q .says }
       go (neither k) = record { on = settled (near-lasts w) p; heads = λ h. refl }
+
+-- a call of another operation, of whose head nothing is said
+silent : {w : Wrong} {s t : Station} {op : ℕ} {o o′ : Outcome Answer} → (T (keepsHead op) → ⊥) →
+    On (near w) (length (stationAfter s o .active)) [] [] (stationAfter s o) (stationAfter t o′) → NearAfter w s t op o o′
+silent n p = record { on = p; heads = λ h. absurd (n h) }
 
 -- the same of the raise whose severity is another
 pub record ApartAfter (v v′ : ℕ) (s : Station) (o o′ : Outcome Answer) : Type 0 where
@@ -156,14 +165,14 @@ near-call w (CallValue.raise c) n s t h q p = in-record p _ n (raise-like (near-
 near-call w (CallValue.clear c) n s t h q p = in-record p _ n (clear-like (near-lasts w) c h)
 near-call w (CallValue.plain acknowledging v) n s t h q p = in-record p _ n (plain-like (near-lasts w) acknowledging v h)
 near-call w (CallValue.plain suppressing v) n s t h q p = in-record p _ n (plain-like (near-lasts w) suppressing v h)
-near-call w (CallValue.policy acknowledging v) n s t h q p = record { on = rw (q tt .0, q tt .1) (settled (near-lasts w) p); heads = λ h. absurd h }
-near-call w (CallValue.policy suppressing v) n s t h q p = record { on = rw (q tt .0, q tt .1) (settled (near-lasts w) p); heads = λ h. absurd h }
+near-call w (CallValue.policy acknowledging v) n s t h q p = silent (λ h. h) (rw (q tt .0, q tt .1) (settled (near-lasts w) p))
+near-call w (CallValue.policy suppressing v) n s t h q p = silent (λ h. h) (rw (q tt .0, q tt .1) (settled (near-lasts w) p))
 near-call w (CallValue.expire u) n s t h q p = in-record p _ n (expire-like (near-lasts w) u h)
-near-call w (CallValue.active v) n s t h q p = record { on = rw (looked n _ s, looked n _ t) (settled (near-lasts w) p); heads = λ h. absurd h }
-near-call w (CallValue.history u v) n s t h q p = record { on = rw (looked n _ s, looked n _ t) (settled (near-lasts w) p); heads = λ h. absurd h }
-near-call w CallValue.counts n s t h q p = record { on = rw (looked n _ s, looked n _ t) (settled (near-lasts w) p); heads = λ h. absurd h }
+near-call w (CallValue.active v) n s t h q p = silent (λ h. h) (rw (looked n _ s, looked n _ t) (settled (near-lasts w) p))
+near-call w (CallValue.history u v) n s t h q p = silent (λ h. h) (rw (looked n _ s, looked n _ t) (settled (near-lasts w) p))
+near-call w CallValue.counts n s t h q p = silent (λ h. h) (rw (looked n _ s, looked n _ t) (settled (near-lasts w) p))
 near-call w CallValue.summary n s t h q p = in-record p _ n (summary-near w)
-near-call w (CallValue.takeAudit i) n s t h q p = record { on = settled (near-lasts w) (go-on p (audited n i s (p .legal)) (audited n i t (p .legal′)) tt); heads = λ h. absurd h }
+near-call w (CallValue.takeAudit i) n s t h q p = silent (λ h. h) (settled (near-lasts w) (go-on p (audited n i s (p .legal)) (audited n i t (p .legal′)) tt))
 near-call w (CallValue.refused k) n s t h q p = record { on = settled (near-lasts w) p; heads = λ h. refl }
 
 -- the raise with the severity v, and the same with v′, on one station
@@ -174,6 +183,6 @@ call-apart s l c v′ n f f′ =
     go (inRecord-like (near-lasts (wrong (c .head .severity) v′ 0)) n
     (record { from = λ a b (p : (a ≡ s) × (b ≡ s)). rw (p .0, p .1) (raise-apart s l c v′ f f′) }) .from s s (refl, refl))
   where
-    go : {o o′ : Outcome Answer} → Both (λ x y t u. (headOf x ≡ headOf y) × NearBut (c .head .severity) v′ t u) o o′ → ApartAfter (c .head .severity) v′ s o o′
+    go : {o o′ : Outcome Answer} → Both (AnsweredApart (c .head .severity) v′) o o′ → ApartAfter (c .head .severity) v′ s o o′
     go (both q) = record { on = q .1; heads = q .0 }
     go (neither b) = record { on = (0, alone _ s l); heads = refl }

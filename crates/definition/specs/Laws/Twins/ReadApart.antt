@@ -18,7 +18,7 @@ use Rattle.definition.specs.Laws.Twins.NearSteps.{raiseWith}
 
 -- the same call, or a raise of severity v and the same with v′
 pub data ReadApart (v v′ : ℕ) : CallValue → CallValue → Type 0 where
-  alike : (c : CallValue) → ReadApart v v′ c c
+  same : (c : CallValue) → ReadApart v v′ c c
   raises : (c : RaiseValue) → c .head .severity ≡ v → ReadApart v v′ (CallValue.raise c) (CallValue.raise (raiseWith v′ c))
 
 before-local : Local beforeSeverity
@@ -81,8 +81,8 @@ module _ (v v′ : ℕ) where
 
   as-raises : {o o′ : Out RaiseValue} → BothRead RaisesApart o o′ → ReadApart v v′ (asRaise o) (asRaise o′)
   as-raises (read {a = c} {u = []} (p, q)) = rw q (raises c p)
-  as-raises (read {u = b ∷ u} h) = alike _
-  as-raises faulty = alike _
+  as-raises (read {u = b ∷ u} h) = same _
+  as-raises faulty = same _
 
 raise-read : (s u : Bytes) (h : RaiseHeadValue) → raiseHead s ≡ got h u → parseCall (1 ∷ s) ≡ asRaise (behind h u)
 unfolding parseCall fieldsOf raiseFields into _>>=_

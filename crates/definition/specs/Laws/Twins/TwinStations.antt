@@ -10,7 +10,7 @@ use lib.Dec.{leb, eqb}
 use lib.ListN.{length, getD, drop}
 use borrow.Author.Tests.{leb-true, leb-false}
 use Rattle.definition.specs.Chain.{Entry, entry, newest, replaced}
-use Rattle.definition.specs.Alarm.{Alarm, sameIdentity}
+use Rattle.definition.specs.Alarm.{Alarm, sameIdentity, isDue}
 use Rattle.definition.specs.Station.{Station, addHistory, oldestHistoryOf, freeOldestHistory, changeHistory}
 use Rattle.definition.specs.Answer.{Raised, Updated, Acknowledged, Suppressed}
 use Rattle.definition.specs.Value.{Action, acknowledging, suppressing}
@@ -173,7 +173,7 @@ unfolding updatedBy newAlarm clearedBy actedOn expiredBy
 twin-lasts = record {
   keys = λ h. ap (λ (a : Alarm). a .key) (h .1);
   ids = λ h. ap (λ (a : Alarm). a .id) (h .1);
-  times = λ h. ap (λ (a : Alarm). a .updatedAt) (h .1);
+  due = λ t h. ap (isDue t) (h .1);
   updates = λ {c = c} r (i, h). (i, ap (λ (a : Alarm). blank (updatedBy c a)) h);
   acts = λ x t (i, h). (i, ap (λ (a : Alarm). blank (actedOn x t a)) h);
   news = λ i k r. refl;

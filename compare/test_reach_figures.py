@@ -1,5 +1,5 @@
-"""Whether numbers and heads of answers that differ behind a wrong severity are noticed (M-113). compare/test_differential.py runs these
-checks."""
+"""Whether counts of any severity, and numbers and heads of answers, that differ behind a wrong severity are noticed (M-113).
+compare/test_differential.py runs these checks."""
 import reach
 from orders import Step
 from test_balance import SUMMARY, cleared, step
@@ -11,6 +11,34 @@ LAST = {1: raised(b"b", 3), 2: cleared(b"a"), 3: step(3, time=1), 4: step(4, tim
 OTHERS = {8: step(8), 9: step(9), 10: step(10), 12: step(12)}
 SHORT = Step(SUMMARY.call, 1551)
 
+
+# ---- counts
+
+# counts of the second list beside ONE, the two severities, and whether that keeps the law
+ONE = [2, 2, 2, 2, 2, 2]
+COUNTS = [
+    (ONE, (3, 4), True),
+    ([2, 2, 2, 1, 3, 2], (3, 4), True),
+    ([2, 2, 2, 3, 1, 2], (3, 4), False),
+    ([2, 2, 2, 3, 1, 2], (4, 3), True),
+    ([2, 2, 2, 0, 4, 2], (3, 4), False),
+    ([1, 2, 2, 2, 2, 3], (0, 5), True),
+    ([3, 2, 2, 2, 2, 1], (5, 0), True),
+    *((ONE[:place] + [1] + ONE[place + 1:5] + [3], (place, 4), False) for place in range(4)),
+    *(([3] + ONE[1:place] + [1] + ONE[place + 1:], (place, 1), False) for place in range(2, 6)),
+    *((ONE[:place] + [3] + ONE[place + 1:4] + [1, 2], (4, 5), False) for place in range(4)),
+]
+
+
+def counts(_root):
+    """The first list may have one alarm more of the severity that it has, the second of the other; of no other severity."""
+    for other, severities, wanted in COUNTS:
+        found = reach.broken(reach.Active(12, ONE), reach.Active(12, other), severities)
+        if (found is None) != wanted:
+            yield f"{other}, {severities}: {found}"
+
+
+# ---- answers
 
 def with_byte(place):
     """Another byte of the answer slice."""
@@ -62,6 +90,7 @@ def not_said(_root):
 
 
 CHECKS = {
+    "one severity: counts of every severity": counts,
     "one severity: numbers and heads that differ are noticed": noticed,
     "one severity: a refusal has no head": refused_alike,
     "one severity: what is not said of answers": not_said,
