@@ -5,6 +5,7 @@ checks."""
 import functools
 import itertools
 import zlib
+from unittest import mock
 
 import generate
 import model
@@ -55,15 +56,15 @@ class Registers:
     def step(self, n, data):
         return self.outcome(n, data)[0]
 
-    def told(self, pair, data):
-        """What breaks the law between what a call told on both registers of a pair."""
-        return reach.told(Step(data, 1552), *(self.outcome(n, data)[1] for n in pair[:2]))
+    def told(self, one, other):
+        """What breaks the law between what two calls told, each with its register."""
+        return reach.told(Step(one[1], 1552), self.outcome(*one)[1], self.outcome(*other)[1])
 
     def mistakes(self, n):
-        """The pairs of registers behind a raise with two severities."""
+        """The two raises of each mistake on a register, and their severities."""
         for raises in RAISES:
             for one, other in itertools.combinations(range(len(SEVERITIES)), 2):
-                yield self.step(n, raises[one]), self.step(n, raises[other]), (SEVERITIES[one], SEVERITIES[other])
+                yield (n, raises[one]), (n, raises[other]), (SEVERITIES[one], SEVERITIES[other])
 
     def broken(self, one, other, entered):
         return reach.broken(self.active(one), self.active(other), entered)
@@ -75,11 +76,12 @@ def searched(start, calls, length):
     reached, pairs = {registers.start}, set()
     singles, behind = set(reached), set()
     for _ in range(length):
-        fault = next(filter(None, (registers.told(pair, data) for pair in behind for data in calls)), None)
-        behind = {(registers.step(one, data), registers.step(other, data), entered) for one, other, entered in behind for data in calls}
-        behind |= {pair for n in singles for pair in registers.mistakes(n)}
+        steps = {((one, data), (other, data), entered) for one, other, entered in behind for data in calls}
+        steps |= {mistake for n in singles for mistake in registers.mistakes(n)}
+        behind = {(registers.step(*one), registers.step(*other), entered) for one, other, entered in steps}
         behind = {pair for pair in behind - pairs if pair[0] != pair[1]}
-        fault = fault or next(filter(None, (registers.broken(*pair) for pair in behind)), None)
+        faults = itertools.chain((registers.broken(*pair) for pair in behind), (registers.told(one, other) for one, other, _ in steps))
+        fault = next(filter(None, faults), None)
         singles = {registers.step(n, data) for n in singles for data in calls} - reached
         reached, pairs = reached | singles, pairs | behind
         if fault or not (behind or singles):
@@ -116,14 +118,31 @@ def short(_root):
 
 
 def search_finds(_root):
-    """With an answered policy call among the calls the search finds that the law is broken."""
-    fault, _, _ = searched(opened(1, 1, 1), [*CALLS, call(6, time=3)], 3)
-    if not fault:
-        yield "nothing is found"
+    """With an answered policy call among the calls the search finds that the law is broken: by active lengths, and by what is told alone."""
+    calls = [*CALLS, call(6, time=3)]
+    found = searched(opened(1, 1, 1), calls, 3)[0]
+    with mock.patch.object(reach, "broken", lambda *_: None):
+        told = searched(opened(1, 1, 1), calls, 3)[0]
+    if not (found and found.startswith("active lengths ") and told and told.startswith("operation 7: number 0, head 0b")):
+        yield f"found are {found}; {told}"
+
+
+def raises_told(_root):
+    """What the two raises of a mistake tell is compared."""
+    def by_severity(register, data, answer):
+        found, length = stepped(register, data, answer)
+        answer[0] ^= data[:1] == reach.RAISE and data[reach.severity_at(data)] == SEVERITIES[-1]
+        return found, length
+    stepped = model.step
+    with mock.patch.object(model, "step", by_severity):
+        found = searched(opened(1, 1, 1), [], 1)[0]
+    if not (found and found.startswith("operation 1: number 0, head 01")):
+        yield f"found is {found}"
 
 
 CHECKS = {
     "one severity: all lists on the smallest register": closed,
     "one severity: all short lists": short,
     "one severity: the search finds what policy calls do": search_finds,
+    "one severity: the search compares the raises": raises_told,
 }

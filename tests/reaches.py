@@ -53,6 +53,8 @@ def reached(calls, at, severity):
     """What `station reach` finds, for scripts. Its figures come by their names, and CSV has the same."""
     words = ["reach", calls, "--at", at, "--severity", severity]
     whole = json.loads(works(*words, "--json"))
+    if any(value == "" for row in whole["figures"] for value in row.values()):
+        raise ValueError(f"JSON has an empty string for call {at} as {severity}, where nothing is null")
     plain = [{key: value or "" for key, value in row.items()} for row in whole["figures"]]
     whole["figures"] = {row.pop("figure"): row for row in plain}
     if whole["figures"] != rows(*words) or list(whole["figures"]) != list(rows(*words)):
@@ -152,7 +154,8 @@ def history(_root):
     yield from bounds_at_end(got, True)
     out = " ".join(works("reach", calls, "--at", 2, "--severity", "minor").decode().split())
     for said in ("severity major; as changed, minor.", "The active counts by severity differ after call 2 alone.", "Bounded after every call: as many",
-                 "the counts of major and minor differ by at most 1", "are refused alike, or answered with the same code and number.", "that is shown for this list only."):
+                 "the counts of major and minor differ by at most 1", "are refused alike, or answered with the same code and number.",
+                 "as long as no policy call behind the raise is answered", "it may differ in others."):
         if said not in out:
             yield f"the page does not say {said!r}"
 
@@ -185,8 +188,8 @@ def without_effect(_root):
     minor = RAISE(0, "a", "minor", "a")
     bad_cause = raw(RAISE(1, "b", "minor", "b"), 27, 0)
     for lines, name, bound in (((minor, RAISE(1, "a", "minor", "b")), "refused 31", ""), ((minor, bad_cause), "refused 28", ""),
-                               ((minor, RAISE(1, "c", "minor", "c"), RAISE(2, "d", "minor", "d")), "active limit exceeded", "equal")):
-        got = reached(listed(*lines), len(lines), "critical")
+                               (("answer 16", minor), "refused 30", ""), ((minor, RAISE(1, "c", "minor", "c"), RAISE(2, "d", "minor", "d")), "active limit exceeded", "equal")):
+        got = reached(listed(*lines), sum(line != "answer 16" for line in lines), "critical")
         yield from expected(got, name, 1, 1, bound)
         yield from bounds_at_end(got, True)
         if got["differing_calls"] or got["first_differing_call"] is not None or got["last_differing_call"] is not None:
@@ -209,24 +212,40 @@ def cleared(_root):
         yield f"a raise of severity cleared is {got}"
 
 
-def faults(_root):
-    """A command line that is not understood is told, and a call that has no such severity to change, with its number."""
-    words = ["reach", DAY, "--at", 23, "--severity", "minor"]
+# What `--at` and `--severity` do not take.
+NUMBERS = ("0", "-1", "x", "", "1.5", "9" * 30)
+NAMES = ("", "Minor", "3", "worst", "\N{COMBINING ACUTE ACCENT}")
+
+
+def usage(_root):
+    """A command line that is not understood is told."""
     yield from ends(2, "--at is needed", "reach", DAY, "--severity", "minor")
     yield from ends(2, "--severity is needed", "reach", DAY, "--at", 23)
     yield from ends(2, "--at needs a value", "reach", DAY, "--severity", "minor", "--at")
-    for number in ("0", "-1", "x", "", "1.5", "9" * 30):
-        yield from ends(2, "--at takes the number of a call, counted from 1", "reach", DAY, "--severity", "minor", "--at", number)
-    for severity in ("", "Minor", "3", "worst", "\N{COMBINING ACUTE ACCENT}"):
-        yield from ends(2, "a severity is cleared, indeterminate, warning, minor, major or critical", "reach", DAY, "--at", 1, "--severity", severity)
-    yield from ends(2, "do not go together", *words, "--json", "--csv")
+    yield from ends(2, "do not go together", "reach", DAY, "--at", 23, "--severity", "minor", "--json", "--csv")
+    wrong = [("--at takes the number of a call, counted from 1", number, "minor") for number in NUMBERS]
+    wrong += [("a severity is cleared, indeterminate, warning, minor, major or critical", 1, severity) for severity in NAMES]
+    for said, number, severity in wrong:
+        yield from ends(2, said, "reach", DAY, "--at", number, "--severity", severity)
+
+
+def faults(_root):
+    """A call that has no such severity to change is told, with its number."""
     raised = RAISE(0, "a", "minor", "a")
     whole = calls_of(listed(raised).read_bytes())[0]
     calls = listed(raised, "summary", "raw", f"raw {whole[:19].hex()}", raw(raised, 19, 6), "raw 01", CLEAR, raw(raised, 13, 0xff))
-    for number, said in ((9, "there is no call 9: the list has 8"), (8, "call 8 is refused for its id or its type, and so has no severity: raw 01"), (2, "call 2 is no raise: summary"), (3, "call 3 is no raise: raw # refused: 23"),
-                         (4, "call 4 ends before its severity: raw 01"), (5, "call 5 has 6 as its severity, and a severity is 0 to 5: raw 01"),
-                         (6, "call 6 ends before its severity: raw 01"), (7, "call 7 is no raise: 2026-03-14 09:05:00 clear type=t"),
-                         (1, "call 1 has severity minor already: 2026-03-14 09:00:00 raise id=a")):
+    wanted = {
+        1: "call 1 has severity minor already: 2026-03-14 09:00:00 raise id=a",
+        2: "call 2 is no raise: summary",
+        3: "call 3 is no raise: raw # refused: 23",
+        4: "call 4 ends before its severity: raw 01",
+        5: "call 5 has 6 as its severity, and a severity is 0 to 5: raw 01",
+        6: "call 6 ends before its severity: raw 01",
+        7: "call 7 is no raise: 2026-03-14 09:05:00 clear type=t",
+        8: "call 8 is refused for its id or its type, and so has no severity: raw 01",
+        9: "there is no call 9: the list has 8",
+    }
+    for number, said in wanted.items():
         yield from ends(3, f"reach.calls: {said}", "reach", calls, "--at", number, "--severity", "minor")
     yield from ends(3, "standard input: call 1 has severity minor already", "reach", "-", "--at", 1, "--severity", "minor", given=calls.read_bytes())
 
@@ -263,6 +282,7 @@ CHECKS = {
     "policy calls end the bounds": policies,
     "a wrong severity without effect": without_effect,
     "severity cleared, and what is answered": cleared,
+    "a wrong severity's command line": usage,
     "calls without a severity to change": faults,
     "calls have their numbers": numbered,
     "pages of a wrong severity are narrow enough": narrow,

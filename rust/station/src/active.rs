@@ -15,12 +15,14 @@ pub struct Active {
 }
 
 impl Active {
-    /// Those of a sound register, read from its active chain: an operation that lists them would cost as much as a call.
+    /// Those of a sound register, read from its active chain: an operation that lists them would cost as much as a call. Of other
+    /// bytes what can be read.
     pub fn of(register: &[u8]) -> Active {
         let [head, ..] = header::HEADS;
         let mut of_severity = [0; SEVERITIES];
         for record in chain::records(register, head) {
-            of_severity[usize::from(register[record + alarm::SEVERITY])] += 1;
+            let severity = register.get(record + alarm::SEVERITY).map(|byte| usize::from(*byte));
+            severity.and_then(|severity| of_severity.get_mut(severity)).into_iter().for_each(|count| *count += 1);
         }
         Active { length: chain::length(register, head), of_severity }
     }

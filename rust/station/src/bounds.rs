@@ -1,29 +1,12 @@
 //! What is bounded while one severity differs between two runs (theorem `reach`), and what was seen of it.
 use crate::active::Active;
+use crate::beside::Row;
+use crate::bound::{Bound, Bounded};
 use crate::change::Change;
 use crate::failure::damaged;
 use crate::figures;
 use crate::replay::Step;
 use alarm_register::{Refusal, Severity, HEAD_WIDTH};
-use std::fmt;
-
-/// By how much a figure may differ between the two runs.
-#[derive(Clone, Copy, Debug, PartialEq, Eq)]
-pub enum Bound {
-    /// Not at all.
-    Equal,
-    /// By one.
-    AtMostOne,
-}
-
-impl fmt::Display for Bound {
-    fn fmt(&self, f: &mut fmt::Formatter<'_>) -> fmt::Result {
-        f.write_str(match self {
-            Bound::Equal => "equal",
-            Bound::AtMostOne => "at most 1",
-        })
-    }
-}
 
 /// Whether a call returns and tells the same in both runs: one that lists nothing and asks no policy.
 fn keeps_head(call: &[u8]) -> bool {
@@ -31,37 +14,8 @@ fn keeps_head(call: &[u8]) -> bool {
 }
 
 /// What a call returned, and the head of its answer.
-fn told<'a>(step: &Step<'a>) -> Result<&'a [u8], Refusal> {
+fn returned<'a>(step: &Step<'a>) -> Result<&'a [u8], Refusal> {
     step.got.map(|answer| &answer[..HEAD_WIDTH.min(answer.len())])
-}
-
-/// A figure of the active chain: its length, or the count of a severity.
-#[derive(Debug)]
-pub struct Bounded {
-    /// The severity whose alarms are counted; none: all.
-    severity: Option<Severity>,
-    /// As listed, and as changed.
-    pub values: [usize; 2],
-    /// What the theorem gives.
-    pub bound: Bound,
-}
-
-impl Bounded {
-    /// The figure's name at the end of a list.
-    pub fn name(&self) -> String {
-        self.severity.map_or("active at end".to_string(), |severity| format!("active at end {severity}"))
-    }
-
-    fn holds(&self) -> bool {
-        let [listed, changed] = self.values;
-        listed.abs_diff(changed) <= usize::from(self.bound == Bound::AtMostOne)
-    }
-
-    fn said(&self) -> String {
-        let [listed, changed] = self.values;
-        let alarms = self.severity.map_or("alarms".to_string(), |severity| format!("{severity} alarms"));
-        format!("active {alarms} are {listed} as listed and {changed} as changed (bound: {})", self.bound)
-    }
 }
 
 /// The calls after which active counts differ.
@@ -102,7 +56,9 @@ impl Bounds {
             self.unbounded_from.get_or_insert(number);
         }
         let [one, other] = steps;
-        if self.unbounded_from.is_none() && keeps_head(one.call) && told(one) != told(other) {
+        // up to the raise both runs are one
+        let same_head = number < self.change.number || keeps_head(one.call);
+        if self.unbounded_from.is_none() && same_head && returned(one) != returned(other) {
             let broken = || format!("call {number} returns another number or another head as changed (bound: equal)");
             self.broken.get_or_insert_with(broken);
         }
@@ -125,8 +81,11 @@ impl Bounds {
     /// The figures of the active chain, after the last call that was seen.
     pub fn figures(&self) -> Vec<Bounded> {
         let count = |severity: &Severity| {
-            let named = [self.change.listed, self.change.changed].contains(severity);
-            let bound = if named { Bound::AtMostOne } else { Bound::Equal };
+            let bound = match severity {
+                severity if *severity == self.change.listed => Bound::OneMoreAsListed,
+                severity if *severity == self.change.changed => Bound::OneMoreAsChanged,
+                _ => Bound::Equal,
+            };
             let values = self.at_end.map(|active| active.of_severity[usize::from(severity.byte())]);
             Bounded { severity: Some(*severity), values, bound }
         };
@@ -134,14 +93,24 @@ impl Bounds {
         std::iter::once(length).chain(Severity::ALL.iter().map(count)).collect()
     }
 
-    /// The bound of a figure at the end of the list, if the theorem gives one. Calls by their answer are counted by codes, and
-    /// expired alarms by numbers, of answers whose heads are the same in both runs.
+    /// The bound of a figure at the end of the list, if one is proved. Calls by their answer are counted by code, and expired alarms
+    /// by number: up to the raise both runs are one; behind it operations 1 to 4, 7 and 11 answer with the same head, and all
+    /// others that are answered with code 11, which is counted of expiries alone.
     pub fn bound(&self, name: &str) -> Option<Bound> {
         if self.unbounded_from.is_some() {
             return None;
         }
         let active = self.figures().into_iter().find(|figure| figure.name() == name).map(|figure| figure.bound);
         active.or(figures::is_by_answer(name).then_some(Bound::Equal))
+    }
+
+    /// Looks at the figures as they are shown: those that are bounded to be equal are.
+    pub fn see_rows(&mut self, rows: &[Row]) {
+        let broken = rows.iter().find(|row| self.bound(&row.name) == Some(Bound::Equal) && !row.equal);
+        let said = broken.map(|row| {
+            format!("{} is {} as listed and {} as changed (bound: equal)", row.name, row.first, row.second_or_absent())
+        });
+        self.broken = self.broken.take().or(said);
     }
 
     /// The first bound that did not hold, and where.
@@ -158,8 +127,10 @@ impl Bounds {
 
 #[cfg(test)]
 mod tests {
-    use super::{Bound, Bounds, Differing};
+    use super::{Bounds, Differing};
     use crate::active::Active;
+    use crate::beside::Row;
+    use crate::bound::Bound;
     use crate::change::Change;
     use crate::list::List;
     use crate::replay::Step;
@@ -185,9 +156,9 @@ mod tests {
 
     #[test]
     fn figures_within_their_bounds_are_no_fault() {
-        for (length, of_severity) in [(9, [1, 1, 1, 3, 2, 1]), (9, [1, 1, 1, 2, 3, 1]), (9, [1, 1, 1, 4, 1, 1])] {
+        for of_severity in [[1, 1, 1, 3, 2, 1], [1, 1, 1, 2, 3, 1], [1, 1, 1, 2, 2, 1], [1, 1, 1, 3, 3, 1]] {
             let mut bounds = bounds();
-            bounds.add(3, [LISTED, active(length, of_severity)]);
+            bounds.add(3, [LISTED, active(9, of_severity)]);
             assert_eq!(bounds.fault(), None, "{of_severity:?}");
         }
     }
@@ -199,8 +170,10 @@ mod tests {
             (9, [2, 1, 1, 2, 2, 1], "active cleared alarms are 1 as listed and 2 as changed (bound: equal)"),
             (9, [1, 0, 1, 3, 3, 1], "active indeterminate alarms are 1 as listed and 0 as changed (bound: equal)"),
             (9, [1, 1, 2, 2, 2, 1], "active warning alarms are 1 as listed and 2 as changed (bound: equal)"),
-            (9, [1, 1, 1, 1, 4, 1], "active minor alarms are 3 as listed and 1 as changed (bound: at most 1)"),
-            (9, [1, 1, 1, 3, 0, 1], "active major alarms are 2 as listed and 0 as changed (bound: at most 1)"),
+            (9, [1, 1, 1, 1, 4, 1], "active minor alarms are 3 as listed and 1 as changed (bound: at most 1 more as listed)"),
+            (9, [1, 1, 1, 4, 2, 1], "active minor alarms are 3 as listed and 4 as changed (bound: at most 1 more as listed)"),
+            (9, [1, 1, 1, 3, 4, 1], "active major alarms are 2 as listed and 4 as changed (bound: at most 1 more as changed)"),
+            (9, [1, 1, 1, 3, 1, 1], "active major alarms are 2 as listed and 1 as changed (bound: at most 1 more as changed)"),
             (9, [1, 1, 1, 2, 2, 2], "active critical alarms are 1 as listed and 2 as changed (bound: equal)"),
         ];
         for (length, of_severity, said) in wrong {
@@ -282,10 +255,43 @@ mod tests {
     }
 
     #[test]
+    fn up_to_the_raise_every_call_returns_the_same() {
+        let empty = [0; RECORD_WIDTH];
+        for (number, operation, broken) in [(1, 8, true), (1, 6, true), (1, 1, true), (2, 8, false), (3, 8, false)] {
+            let (call, mut bounds) = ([operation], bounds());
+            bounds.see(number, &[&[1; 16], &[2; 16]].map(|answer| Step { call: &call, got: Ok(answer), register: &empty }));
+            assert_eq!(bounds.fault().is_some(), broken, "call {number}, operation {operation}");
+        }
+    }
+
+    #[test]
+    fn figures_that_are_shown_as_bounded_are_equal() {
+        let row = |name: &str, second: &str| Row {
+            name: name.to_string(),
+            first: "1".to_string(),
+            second: Some(second.to_string()),
+            equal: second == "1",
+        };
+        for (name, second, broken) in
+            [("suppressed", "0", true), ("expired", "2", true), ("suppressed", "1", false), ("refused", "2", false)]
+        {
+            let mut bounds = bounds();
+            bounds.see_rows(&[row("raised", "1"), row(name, second)]);
+            let said =
+                format!("a bound does not hold: {name} is 1 as listed and {second} as changed (bound: equal); the register");
+            assert_eq!(bounds.fault().is_some_and(|fault| fault.starts_with(&said)), broken, "{name} {second}");
+            bounds.unbounded_from = Some(3);
+            bounds.broken = None;
+            bounds.see_rows(&[row(name, second)]);
+            assert_eq!(bounds.fault(), None);
+        }
+    }
+
+    #[test]
     fn figures_have_their_bounds_until_a_policy_call_is_answered() {
         let mut bounds = bounds();
-        let (equal, one) = (Some(Bound::Equal), Some(Bound::AtMostOne));
-        let figures = [("active at end", equal), ("active at end minor", one), ("active at end major", one)];
+        let (equal, listed, changed) = (Some(Bound::Equal), Some(Bound::OneMoreAsListed), Some(Bound::OneMoreAsChanged));
+        let figures = [("active at end", equal), ("active at end minor", listed), ("active at end major", changed)];
         let others = [("active at end critical", equal), ("raised", equal), ("expired", equal), ("not found", equal)];
         let none = [
             "calls",

@@ -2,6 +2,7 @@
 mod active;
 mod balance;
 mod beside;
+mod bound;
 mod bounds;
 mod chain;
 mod change;

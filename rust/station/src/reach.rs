@@ -26,24 +26,27 @@ each severity are active at the end.
                         UTC, as +01:00; without it, in UTC
   --json, --csv         the result for scripts; CSV has the figures alone
 
-Bounds, which are proved for every list of calls (theorem reach): after each call
-as many alarms are active in both runs; of the two severities that call N has, the
-active counts differ by at most 1; of every other severity they are equal. Calls
-by their answer (raised, updated, cleared and so on) and expired alarms are equal:
-raise, clear, acknowledge, suppress, expire and summary are refused alike in both
-runs, or answered with the same code and number. This ends with the first policy
-call behind call N (acknowledge-with-policy or suppress-with-policy) that is
-answered, since a critical severity may stop a suppression: from there on nothing
-is bounded. Refused calls do no harm, nor do policy calls before call N.
+Bounds are proved for every list of calls, as long as no policy call behind call N
+is answered (theorem reach). After each call as many alarms are active in both
+runs; of the severity that call N has in a run, that run may have one active alarm
+more; of every other severity both have as many. Calls by their answer (raised,
+updated, cleared and so on) and expired alarms are equal: raise, clear,
+acknowledge, suppress, expire and summary are refused alike in both runs, or
+answered with the same code and number.
 
-Of other figures the theorem says nothing: where one is equal, that is shown for
-this list only. History is among them: whether a change gets an entry of its own
-there or overwrites the newest one depends on the severity of both.
+From the first policy call behind call N (acknowledge-with-policy or
+suppress-with-policy) that is answered nothing is bounded, since a critical
+severity may stop a suppression. Policy calls that are refused do no harm, nor do
+those before call N.
+
+Of figures without a bound nothing is claimed: where one is equal in this list, it
+may differ in others. History is among them: whether a change gets an entry of its
+own there or overwrites the newest one depends on the severity of both.
 
 Exit status: 0 fine, whether figures differ or not, 1 a bound does not hold (the
 library or this program is damaged), 2 the command line is not understood, 3 LIST
-is not a list of calls, or its call N has no such severity to change, 4 a file
-cannot be read or written.
+is not a list of calls, or its call N is not there, is no raise, has no legal
+severity or has SEVERITY already, 4 a file cannot be read or written.
 ";
 
 pub fn command(options: &Options) -> Result<u8, Failure> {
@@ -57,6 +60,7 @@ pub fn command(options: &Options) -> Result<u8, Failure> {
     let mut bounds = Bounds::of(change);
     let runs = replay::run_both([&list, &changed], |number, steps| bounds.see(number, &steps)).map_err(input)?;
     let rows = rows(&bounds, &runs).map_err(input)?;
+    bounds.see_rows(&rows);
     let shown = Shown { raise, calls: list.calls.len(), table: table(&rows, &bounds), bounds };
     files::show(&shown.form(options.form), shown.bounds.fault().as_deref(), shown.status())
 }
@@ -101,7 +105,7 @@ fn rows(bounds: &Bounds, runs: &[Run; 2]) -> Result<Vec<Row>, String> {
         let own: Vec<Figure> = bounds.figures().iter().map(|figure| (figure.name(), figure.values[place].to_string())).collect();
         let not_own = others.into_iter().filter(|(name, _)| own.iter().all(|(known, _)| known != name));
         let (by_answer, rest): (Vec<Figure>, Vec<Figure>) = not_own.partition(|(name, _)| figures::is_by_answer(name));
-        Ok([own.clone(), by_answer, rest].concat())
+        Ok([own, by_answer, rest].concat())
     };
     let (listed, changed) = (counted(0)?, counted(1)?);
     Ok(beside::rows(beside::merged(&listed, &changed), &listed, &changed))
@@ -126,8 +130,9 @@ fn sentences(bounds: &Bounds, calls: usize) -> Vec<String> {
     let Change { number, listed, changed, .. } = &bounds.change;
     let bound = format!(
         "as many alarms are active in both runs, the counts of {listed} and {changed} differ by at most 1, those of every other \
-         severity are equal, and calls that list nothing and ask no policy are refused alike, or answered with the same code and \
-         number. That is proved for every list of calls (theorem reach)"
+         severity are equal, and raise, clear, acknowledge, suppress, expire and summary are refused alike, or answered with the \
+         same code and number. That is proved for every list of calls as long as no policy call behind the raise is answered \
+         (theorem reach)"
     );
     let reach = match bounds.unbounded_from {
         None => format!("Bounded after every call: {bound}."),
@@ -140,7 +145,7 @@ fn sentences(bounds: &Bounds, calls: usize) -> Vec<String> {
         format!("As listed, call {number} has severity {listed}; as changed, {changed}."),
         format!("The active counts by severity differ {}.", when(bounds.differing, calls)),
         reach,
-        "Of a figure without a bound the theorem says nothing: where it is equal, that is shown for this list only.".to_string(),
+        "Of a figure without a bound nothing is claimed: where it is equal in this list, it may differ in others.".to_string(),
     ];
     said.extend(bounds.broken().map(|broken| format!("A BOUND DOES NOT HOLD: {broken}.")));
     said

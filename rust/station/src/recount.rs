@@ -67,7 +67,7 @@ pub fn command(options: &Options) -> Result<u8, Failure> {
     let reported = figures::report(&files::text(against)?, &counted).map_err(|fault| Failure::input(against, fault))?;
     let report = Some(FourFigures::reported(named(against), &reported, options.partial));
     let balances = Balances { raw_calls, report };
-    let rows = beside(&counted, &reported, options.partial);
+    let rows = compared(&counted, &reported, options.partial);
     let differing = rows.iter().filter(|row| !row.equal).count();
     let table = table(&named(against), &rows);
     let verdict = verdict(&named(against), rows.len(), differing);
@@ -103,7 +103,7 @@ fn status(balances: &Balances, equal: bool) -> u8 {
 }
 
 /// The figures of the raw calls, then those of the report alone; of a part, only what it reports.
-fn beside(counted: &[Figure], reported: &[Figure], partial: bool) -> Vec<Row> {
+fn compared(counted: &[Figure], reported: &[Figure], partial: bool) -> Vec<Row> {
     let only_reported = reported.iter().filter(|(name, _)| !counted.iter().any(|(figure, _)| figure == name));
     let names = counted.iter().chain(only_reported).map(|(name, _)| name);
     beside::rows(names, counted, reported).into_iter().filter(|row| !partial || row.second.is_some()).collect()

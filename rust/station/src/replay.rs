@@ -32,11 +32,6 @@ impl Machine {
         Register::over(&mut self.register).active_length().unwrap_or_default()
     }
 
-    /// Performs a call of the list.
-    pub fn step(&mut self, call: &[u8]) -> Result<&[u8], Refusal> {
-        Register::over(&mut self.register).step(call, &mut self.answer)
-    }
-
     /// The answer to an operation, on a copy of the register: what the list's calls find is not changed by looking.
     pub fn look(&self, call: &CallBytes) -> Result<Vec<u8>, Refusal> {
         let mut copy = self.register.clone();
@@ -157,14 +152,13 @@ pub type Run = (Machine, Tally);
 
 /// Runs a whole list; gives the register at its end, and what the answers add up to.
 pub fn run(list: &List) -> Result<Run, String> {
-    let mut machine = Machine::fresh(list)?;
-    let mut tally = Tally::default();
+    let mut run = (Machine::fresh(list)?, Tally::default());
     let mut progress = Progress::new(list.calls.len());
     for (place, call) in list.calls.iter().enumerate() {
         progress.done(place);
-        tally.add(call, machine.step(call));
+        step(&mut run, call);
     }
-    Ok((machine, tally))
+    Ok(run)
 }
 
 /// Runs two lists of as many calls side by side. After each call `see` gets its number, from 1, and what it did in both runs.
@@ -179,6 +173,7 @@ pub fn run_both([list, other]: [&List; 2], mut see: impl FnMut(usize, [Step<'_>;
     Ok([first, second])
 }
 
+/// Performs a call of a run.
 fn step<'a>((machine, tally): &'a mut Run, call: &'a [u8]) -> Step<'a> {
     let got = Register::over(&mut machine.register).step(call, &mut machine.answer);
     tally.add(call, got);
