@@ -1,8 +1,10 @@
--- "All strings but details are UTF-8 by RFC 3629": section 4 of that document, row by row.
-use Prim.Native.Nat.{ℕ}
+-- "All strings but details are UTF-8 by RFC 3629": section 4 of that document, each row below the line of the syntax that has it.
+use Prim.Native.Nat.{ℕ, zero, suc, pred}
 use mathlib.Core.List.{List, [], _∷_}
-use mathlib.Core.Bool.{Bool, true, false, cond, _&&_, _||_}
-use lib.Dec.{leb}
+use mathlib.Core.Bool.{Bool, true, false, cond, _&&_}
+use mathlib.Core.Option.{Option, none, some}
+use lib.Dec.{leb, eqb}
+use lib.ListN.{length}
 use Rattle.octets.specs.Bytes.{Bytes}
 
 -- the bytes from lo to hi
@@ -17,49 +19,63 @@ _–_ l h = record { lo = l; hi = h }
 abbrev pub inside : Range → ℕ → Bool
 inside r b = leb (r .lo) b && leb b (r .hi)
 
--- a row of the syntax: the first byte, and the bytes that follow it
-pub record Row : Type 0 where
-  pub first : Range
-  pub rest : List Range
+-- a row of the syntax: the range of each byte
+abbrev pub Row : Type 0
+Row = List Range
 
-abbrev row : Range → List Range → Row
-row f r = record { first = f; rest = r }
-
--- UTF8-tail
+-- UTF8-tail   = %x80-BF
 abbrev pub tail : Range
 tail = 0x80 – 0xBF
 
--- UTF8-1, UTF8-2, UTF8-3 and UTF8-4, in the document's order
+-- UTF8-char   = UTF8-1 / UTF8-2 / UTF8-3 / UTF8-4
 abbrev pub rows : List Row
 rows =
-    row (0x00 – 0x7F) []
-    ∷ row (0xC2 – 0xDF) (tail ∷ [])
-    ∷ row (0xE0 – 0xE0) ((0xA0 – 0xBF) ∷ tail ∷ [])
-    ∷ row (0xE1 – 0xEC) (tail ∷ tail ∷ [])
-    ∷ row (0xED – 0xED) ((0x80 – 0x9F) ∷ tail ∷ [])
-    ∷ row (0xEE – 0xEF) (tail ∷ tail ∷ [])
-    ∷ row (0xF0 – 0xF0) ((0x90 – 0xBF) ∷ tail ∷ tail ∷ [])
-    ∷ row (0xF1 – 0xF3) (tail ∷ tail ∷ tail ∷ [])
-    ∷ row (0xF4 – 0xF4) ((0x80 – 0x8F) ∷ tail ∷ tail ∷ [])
+    -- UTF8-1      = %x00-7F
+    ((0x00 – 0x7F) ∷ [])
+    -- UTF8-2      = %xC2-DF UTF8-tail
+    ∷ ((0xC2 – 0xDF) ∷ tail ∷ [])
+    -- UTF8-3      = %xE0 %xA0-BF UTF8-tail / %xE1-EC 2( UTF8-tail ) /
+    --               %xED %x80-9F UTF8-tail / %xEE-EF 2( UTF8-tail )
+    ∷ ((0xE0 – 0xE0) ∷ (0xA0 – 0xBF) ∷ tail ∷ [])
+    ∷ ((0xE1 – 0xEC) ∷ tail ∷ tail ∷ [])
+    ∷ ((0xED – 0xED) ∷ (0x80 – 0x9F) ∷ tail ∷ [])
+    ∷ ((0xEE – 0xEF) ∷ tail ∷ tail ∷ [])
+    -- UTF8-4      = %xF0 %x90-BF 2( UTF8-tail ) / %xF1-F3 3( UTF8-tail ) /
+    --               %xF4 %x80-8F 2( UTF8-tail )
+    ∷ ((0xF0 – 0xF0) ∷ (0x90 – 0xBF) ∷ tail ∷ tail ∷ [])
+    ∷ ((0xF1 – 0xF3) ∷ tail ∷ tail ∷ tail ∷ [])
+    ∷ ((0xF4 – 0xF4) ∷ (0x80 – 0x8F) ∷ tail ∷ tail ∷ [])
     ∷ []
 
--- a row begins with b
-unfoldable pub leads : List Row → ℕ → Bool
-leads [] b = false
-leads (r ∷ rs) b = inside (r .first) b || leads rs b
+-- s begins with a byte of each range, one after the other
+unfoldable pub fits : Row → Bytes → Bool
+fits [] s = true
+fits (r ∷ rs) [] = false
+fits (r ∷ rs) (b ∷ s) = inside r b && fits rs s
 
--- what follows b in the row that begins with it
-unfoldable pub follows : List Row → ℕ → List Range
-follows [] b = []
-follows (r ∷ rs) b = cond (inside (r .first) b) (r .rest) (follows rs b)
+-- how many bytes the first of the rows has that s begins with, 0 where it begins with none
+unfoldable pub widthIn : List Row → Bytes → ℕ
+widthIn [] s = 0
+widthIn (r ∷ rs) s = cond (fits r s) (length r) (widthIn rs s)
 
--- the rest of a character, and then whole characters
-unfoldable pub utf8From : List Range → Bytes → Bool
-utf8From [] [] = true
-utf8From (r ∷ rs) [] = false
-utf8From [] (b ∷ s) = leads rows b && utf8From (follows rows b) s
-utf8From (r ∷ rs) (b ∷ s) = inside r b && utf8From rs s
+-- how many bytes the character takes that s begins with, 0 where it begins with none
+unfoldable pub character : Bytes → ℕ
+character s = widthIn rows s
 
--- UTF8-octets: a run of rows
+abbrev pub oneMore : Option ℕ → Option ℕ
+oneMore none = none
+oneMore (some n) = some (suc n)
+
+-- UTF8-octets = *( UTF8-char ): how many rows s is a run of, none where it is no run; its first n bytes are of a row that is counted
+unfoldable pub rowsFrom : ℕ → Bytes → Option ℕ
+rowsFrom n [] = some 0
+rowsFrom (suc n) (b ∷ s) = rowsFrom n s
+rowsFrom zero (b ∷ s) = cond (eqb (character (b ∷ s)) 0) none (oneMore (rowsFrom (pred (character (b ∷ s))) s))
+
+abbrev pub isRun : Option ℕ → Bool
+isRun none = false
+isRun (some n) = true
+
+-- M-101: "A string is accepted exactly if it is a run of those rows"
 unfoldable pub utf8 : Bytes → Bool
-utf8 s = utf8From [] s
+utf8 s = isRun (rowsFrom 0 s)

@@ -1,33 +1,26 @@
--- What the contracts say: strings of ASCII; and what `Follow` stands for, the ranges of the bytes that must still come of a character.
-use Prim.Native.Nat.{ℕ, zero, suc}
-use mathlib.Core.List.{List, [], _∷_}
+-- What the contracts say: strings of ASCII, strings of tails, and a row behind its first byte.
+use Prim.Native.Nat.{ℕ, _-_}
+use mathlib.Core.List.{[], _∷_}
 use mathlib.Core.Bool.{Bool, true, cond, _&&_}
-use lib.Dec.{ltb}
-use lib.ListN.{replicate}
+use lib.Dec.{ltb, leb}
+use lib.ListN.{length, take, drop, replicate}
 use Rattle.octets.specs.Bytes.{Bytes}
-use Rattle.definition.specs.Utf8.{Range, _–_, inside, tail, rows, leads, follows}
-use Rattle.utf8.specs.declared.Follow.{Follow}
+use Rattle.definition.specs.Utf8.{Range, inside, tail, fits}
 
 -- all bytes are below 128: ASCII
 unfoldable pub plain : Bytes → Bool
 plain [] = true
 plain (b ∷ s) = ltb b 128 && plain s
 
--- ---- what must still come
+-- s begins with eight bytes of ASCII
+unfoldable pub startsPlain : Bytes → Bool
+startsPlain s = leb 8 (length s) && plain (take 8 s)
 
--- n ranges: r, and then tails
-unfoldable pub toCome : ℕ → Range → List Range
-toCome zero r = []
-toCome (suc n) r = r ∷ replicate n tail
+-- all bytes are in the range
+unfoldable pub allInside : Range → Bytes → Bool
+allInside r [] = true
+allInside r (b ∷ s) = inside r b && allInside r s
 
-abbrev pub ranges : Follow → List Range
-ranges f = toCome (f .more) (f .lo – f .hi)
-
--- a byte that cannot come
-abbrev pub never : List Range
-never = (1 – 0) ∷ []
-
--- what must still come after one byte more
-unfoldable pub after : List Range → ℕ → List Range
-after [] b = cond (leads rows b) (follows rows b) never
-after (r ∷ rs) b = cond (inside r b) rs never
+-- n where behind the first byte of s stand one in the range r and then tails, n bytes in all; else 0
+unfoldable pub rowWidth : ℕ → Range → Bytes → ℕ
+rowWidth n r s = cond (fits (r ∷ replicate (n - 2) tail) (drop 1 s)) n 0

@@ -1,111 +1,80 @@
 // UTF-8 by RFC 3629, section 4: which byte strings are well formed.
 //
-// The definition has the RFC's rows of byte ranges, and a string is well formed if it is a run of rows (`utf8` in
-// definition, specs/Utf8.antt). The code goes another way and is proved equal: strings of ASCII, which most are, in
-// one quick loop; any other byte by byte, with what must still come of a character (`Follow`, specs/Meaning.antt). A
-// byte that fits no row leaves a `Follow` that nothing meets, so that the loop needs no way out.
+// `character` is that section's syntax: a case for each of its rows, in its order, by the first byte and the range of
+// the second. A string is well formed if it is a run of characters (`utf8` in definition, specs/Utf8.antt). Most
+// strings are ASCII, and the others for the most part: a string of ASCII is seen at once, and between other letters
+// ASCII is passed eight bytes at a time.
 ghost use mathlib.Core.Path.{_≡_};
-ghost use mathlib.Core.List.{[]};
-ghost use Prim.Native.Nat.{_<_, _≤_};
-ghost use Rattle.definition.specs.Utf8.{_–_, utf8};
-ghost use Rattle.utf8.specs.Meaning.{plain, toCome, ranges, after};
+ghost use Prim.Native.Nat.{_≤_};
+ghost use Rattle.definition.specs.Utf8.{_–_, tail, character as theCharacter, utf8};
+ghost use Rattle.utf8.specs.Meaning.{plain, allInside, startsPlain, rowWidth};
 
-// What must still come of a character: `more` bytes, the next of them from lo to hi. Where lo is above hi, none can.
-struct Follow {
-    more: u8,
-    lo: u8,
-    hi: u8,
-}
-
-fn to_come(more: u8, lo: u8, hi: u8) -> Follow
-    ensures { λ r. ⌜ ranges r ≡ toCome more (lo – hi) ⌝ }
+// Whether all bytes of s are tails.
+fn are_tails(s: &[u8]) -> bool
+    ensures { λ r. ⌜ r ≡ allInside tail (now (s .entry)) ⌝ }
 {
-    Follow { more, lo, hi }
-}
-
-// What follows a first byte.
-fn lead(b: u8) -> Follow
-    ensures { λ r. ⌜ ranges r ≡ after [] b ⌝ }
-{
-    if b < 0x80 {
-        return to_come(0, 0x80, 0xBF);
-    }
-    if b < 0xC2 {
-        return to_come(1, 1, 0);
-    }
-    if b < 0xE0 {
-        return to_come(1, 0x80, 0xBF);
-    }
-    if b < 0xF0 {
-        return lead3(b);
-    }
-    lead4(b)
-}
-
-// The rows of three bytes.
-fn lead3(b: u8) -> Follow
-    requires { ⌜ (0xE0 ≤ b) × (b < 0xF0) ⌝ }
-    ensures { λ r. ⌜ ranges r ≡ after [] b ⌝ }
-{
-    if b == 0xE0 {
-        return to_come(2, 0xA0, 0xBF);
-    }
-    if b < 0xED {
-        return to_come(2, 0x80, 0xBF);
-    }
-    if b == 0xED {
-        return to_come(2, 0x80, 0x9F);
-    }
-    to_come(2, 0x80, 0xBF)
-}
-
-// The rows of four bytes.
-fn lead4(b: u8) -> Follow
-    requires { ⌜ 0xF0 ≤ b ⌝ }
-    ensures { λ r. ⌜ ranges r ≡ after [] b ⌝ }
-{
-    if b == 0xF0 {
-        return to_come(3, 0x90, 0xBF);
-    }
-    if b < 0xF4 {
-        return to_come(3, 0x80, 0xBF);
-    }
-    if b == 0xF4 {
-        return to_come(3, 0x80, 0x8F);
-    }
-    to_come(1, 1, 0)
-}
-
-// What follows one byte more.
-fn next(f: Follow, b: u8) -> Follow
-    ensures { λ r. ⌜ ranges r ≡ after (ranges f) b ⌝ }
-{
-    let more = f.more;
-    let lo = f.lo;
-    let hi = f.hi;
-    if more == 0 {
-        return lead(b);
-    }
-    if b < lo {
-        return to_come(1, 1, 0);
-    }
-    if hi < b {
-        return to_come(1, 1, 0);
-    }
-    to_come(more - 1, 0x80, 0xBF)
-}
-
-// Whether s is a run of characters. A character begins wherever no byte is still to come.
-fn is_run(s: &[u8]) -> bool
-    ensures { λ r. ⌜ r ≡ utf8 (now (s .entry)) ⌝ }
-{
-    let mut f = to_come(0, 0x80, 0xBF);
     let mut i = 0;
     while i < s.len() {
-        f = next(f, s[i]);
+        // UTF8-tail   = %x80-BF
+        if s[i] < 0x80 {
+            return false;
+        }
+        if 0xBF < s[i] {
+            return false;
+        }
         i += 1;
     }
-    f.more == 0
+    true
+}
+
+// A row of n bytes whose first is there: n where a second from lo to hi follows and then tails, else 0.
+fn row(s: &[u8], n: usize, lo: u8, hi: u8) -> usize
+    requires { ⌜ 2 ≤ n ⌝ }
+    ensures { λ r. ⌜ r ≡ rowWidth n (lo – hi) (now (s .entry)) ⌝ }
+{
+    if s.len() < n {
+        return 0;
+    }
+    let b = s[1];
+    if b < lo {
+        return 0;
+    }
+    if hi < b {
+        return 0;
+    }
+    if are_tails(&s[2..n]) {
+        return n;
+    }
+    0
+}
+
+// How many bytes the character takes that s begins with, 0 where it begins with none:
+// UTF8-char   = UTF8-1 / UTF8-2 / UTF8-3 / UTF8-4
+fn character(s: &[u8]) -> usize
+    ensures { λ r. ⌜ r ≡ theCharacter (now (s .entry)) ⌝ }
+{
+    if s.len() == 0 {
+        return 0;
+    }
+    let first = s[0];
+    match first {
+        // UTF8-1      = %x00-7F
+        0x00..=0x7F => 1,
+        // UTF8-2      = %xC2-DF UTF8-tail
+        0xC2..=0xDF => row(s, 2, 0x80, 0xBF),
+        // UTF8-3      = %xE0 %xA0-BF UTF8-tail / %xE1-EC 2( UTF8-tail ) /
+        //               %xED %x80-9F UTF8-tail / %xEE-EF 2( UTF8-tail )
+        0xE0 => row(s, 3, 0xA0, 0xBF),
+        0xE1..=0xEC => row(s, 3, 0x80, 0xBF),
+        0xED => row(s, 3, 0x80, 0x9F),
+        0xEE..=0xEF => row(s, 3, 0x80, 0xBF),
+        // UTF8-4      = %xF0 %x90-BF 2( UTF8-tail ) / %xF1-F3 3( UTF8-tail ) /
+        //               %xF4 %x80-8F 2( UTF8-tail )
+        0xF0 => row(s, 4, 0x90, 0xBF),
+        0xF1..=0xF3 => row(s, 4, 0x80, 0xBF),
+        0xF4 => row(s, 4, 0x80, 0x8F),
+        _ => 0,
+    }
 }
 
 // Whether all bytes of s are below 128.
@@ -121,7 +90,36 @@ fn is_ascii(s: &[u8]) -> bool
     x < 128
 }
 
-// Whether s is UTF-8; ASCII, which most strings are, in a quick way.
+// Whether s begins with eight bytes of ASCII.
+fn starts_plain(s: &[u8]) -> bool
+    ensures { λ r. ⌜ r ≡ startsPlain (now (s .entry)) ⌝ }
+{
+    if s.len() < 8 {
+        return false;
+    }
+    is_ascii(&s[..8])
+}
+
+// Whether s is a run of characters: UTF8-octets = *( UTF8-char )
+fn is_run(s: &[u8]) -> bool
+    ensures { λ r. ⌜ r ≡ utf8 (now (s .entry)) ⌝ }
+{
+    let mut i = 0;
+    while i < s.len() {
+        if starts_plain(&s[i..]) {
+            i += 8;
+            continue;
+        }
+        let n = character(&s[i..]);
+        if n == 0 {
+            return false;
+        }
+        i += n;
+    }
+    true
+}
+
+// Whether s is UTF-8.
 pub fn is_utf8(s: &[u8]) -> bool
     ensures { λ r. ⌜ r ≡ utf8 (now (s .entry)) ⌝ }
 {

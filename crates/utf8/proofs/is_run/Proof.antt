@@ -1,36 +1,64 @@
--- At each place the bytes left are a run, after what is still to come, where s is one.
-use mathlib.Core.Path.{_≡_, _∙_, sym, ap}
-use mathlib.Core.List.{List}
+-- At each place the bytes left are a run where s is one.
+use mathlib.Core.Path.{_≡_, _∙_, sym, refl}
 use Prim.Native.Nat.{_≤_, _-_}
 use native.Mathlib.Omega.{arith}
 use borrow.Author.Needs.{needs}
 use lib.ListN.{length, drop}
-use Rattle.definition.specs.Utf8.{Range, utf8, utf8From}
-use Rattle.utf8.specs.Meaning.{toCome, ranges}
-use Rattle.utf8.proofs.Rows.{run-step, run-end}
+use Rattle.definition.specs.Utf8.{utf8}
+use Rattle.utf8.proofs.Runs.{goes-plain, goes-character, goes-nowhere, goes-end}
 use Rattle.utf8.proofs.is_run.Statement.{statement}
 use Rattle.utf8.proofs.is_run.Tie as tie
 
 abbrev Inv-loop : tie.InvT-loop
-Inv-loop s f₀ i₀ f i = (i ≤ length s) × (utf8From (ranges f) (drop i s) ≡ utf8 s)
+Inv-loop s i₀ i = (i ≤ length s) × (utf8 (drop i s) ≡ utf8 s)
 
 abbrev μ-loop : tie.MeasureT-loop
-μ-loop s f₀ i₀ f i = length s - i
+μ-loop s i₀ i = length s - i
 
 loop-holds : tie.Need-loop-holds Inv-loop μ-loop
-unfolding utf8 toCome
-loop-holds c =
-    (search needs, ap (λ (rs : List Range). utf8From rs (c .before .before .args .s .now)) (c .to-come .ensures))
+loop-holds c = (omega arith, refl)
+
+add-i : tie.Need-add-i Inv-loop μ-loop
+add-i c =
+    let l = c .before .before .before .before in
+    omega (arith, goes-plain (l .before .before .args .s .now) (l .loop .i) (l .loop .inv .0) (sym (c .if1 .taken) ∙ c .before .starts-plain .ensures) .0)
+
+loop-less : tie.Need-loop-less Inv-loop μ-loop
+loop-less c =
+    let l = c .before .before .before .before in
+    omega (arith, goes-plain (l .before .before .args .s .now) (l .loop .i) (l .loop .inv .0) (sym (c .if1 .taken) ∙ c .before .starts-plain .ensures) .0)
 
 loop-again : tie.Need-loop-again Inv-loop μ-loop
 loop-again c =
-    let l = c .before .before .before .loop in
-    (search needs, run-step (l .f) (c .next .result) _ (l .i) (omega arith) (c .next .ensures) ∙ l .inv .1)
+    let l = c .before .before .before .before in
+    let g = goes-plain _ (l .loop .i) (l .loop .inv .0) (sym (c .if1 .taken) ∙ c .before .starts-plain .ensures) in
+    (g .0, g .1 ∙ l .loop .inv .1)
 
 returns : tie.Need-returns Inv-loop μ-loop
 returns c =
-    let l = c .before .before .loop in
-    sym (run-end (l .f) _ (l .i) (omega arith)) ∙ l .inv .1
+    let l = c .before .before .before .before .before .before .before in
+    goes-nowhere _ (l .loop .i) _ (search needs) (c .before .character .ensures) (c .if2 .taken) ∙ l .loop .inv .1
+
+add-i-2 : tie.Need-add-i-2 Inv-loop μ-loop
+add-i-2 c =
+    let l = c .before .before .before .before .before .before .before in
+    omega (arith, goes-character (l .before .before .args .s .now) (l .loop .i) _ (l .loop .inv .0) (c .before .character .ensures) (c .if2 .left) .0)
+
+loop-less-2 : tie.Need-loop-less-2 Inv-loop μ-loop
+loop-less-2 c =
+    let l = c .before .before .before .before .before .before .before in
+    omega (arith, goes-character (l .before .before .args .s .now) (l .loop .i) _ (l .loop .inv .0) (c .before .character .ensures) (c .if2 .left) .0)
+
+loop-again-2 : tie.Need-loop-again-2 Inv-loop μ-loop
+loop-again-2 c =
+    let l = c .before .before .before .before .before .before .before in
+    let g = goes-character _ (l .loop .i) _ (l .loop .inv .0) (c .before .character .ensures) (c .if2 .left) in
+    (g .0, g .1 ∙ l .loop .inv .1)
+
+returns-2 : tie.Need-returns-2 Inv-loop μ-loop
+returns-2 c =
+    let l = c .before in
+    goes-end (l .before .before .args .s .now) (l .loop .i) (omega arith) ∙ l .loop .inv .1
 
 pub is-run-spec : {M : Type 1} → statement M
 is-run-spec =
@@ -38,11 +66,20 @@ is-run-spec =
     (tie.spec
     Inv-loop
     μ-loop
-    (λ c κs. search needs)
     loop-holds
     (λ c. search needs)
+    (λ c. search needs)
+    (λ c. search needs)
     (λ c κs. search needs)
-    (λ c. search needs)
-    (λ c. search needs)
+    add-i
+    loop-less
     loop-again
-    returns)
+    (λ c. search needs)
+    (λ c. search needs)
+    (λ c. search needs)
+    (λ c κs. search needs)
+    returns
+    add-i-2
+    loop-less-2
+    loop-again-2
+    returns-2)

@@ -6,7 +6,7 @@ use Rattle.octets.specs.Pack.{pack}
 use Rattle.fips180.specs.Sha256.{constants, zerosOf, padded, wordsOf, initial, nextWord, scheduleOf, roundOf, roundsOf, sumOf, blockOf, blocksOf, digestOf, sha256Of}
 use Rattle.definition.specs.Value.{KeyValue, CallValue}
 use Rattle.definition.specs.Key.{strings, digitsFrom, decimal, parts, fedObject, fedPlaces, fed, keyOf, hex}
-use Rattle.definition.specs.Utf8.{leads, follows, utf8From, utf8}
+use Rattle.definition.specs.Utf8.{fits, widthIn, character, rowsFrom, utf8}
 use Rattle.definition.specs.White.{space, frontOf, startFrom, endFrom, trim, hasSpace}
 use Rattle.definition.specs.Cause.{oneOf, causeOf, dotted, segments, hasDot, allFull}
 use Rattle.definition.specs.Reader as Reader
@@ -30,7 +30,7 @@ keyed type k = hex (keyOf type k)
 
 -- a call's bytes; operations 8 to 12 are not opened
 unfoldable pub parsed : Bytes → CallValue
-unfolding join digits valueFrom same begins leads follows utf8From utf8 space frontOf startFrom endFrom trim hasSpace oneOf causeOf dotted segments hasDot allFull Reader._>>=_ into bytes number choice blob text optional causeText pair objectOf object scopeOf scope raiseHead places key raiseBody raiseFields clearFields plainFields actor request verdict policyFields fieldsOf parseCall
+unfolding join digits valueFrom same begins fits widthIn character rowsFrom utf8 space frontOf startFrom endFrom trim hasSpace oneOf causeOf dotted segments hasDot allFull Reader._>>=_ into bytes number choice blob text optional causeText pair objectOf object scopeOf scope raiseHead places key raiseBody raiseFields clearFields plainFields actor request verdict policyFields fieldsOf parseCall
 parsed c = parseCall c
 
 -- a step and its answer's bytes; keys, and operations 8 to 12, are not opened

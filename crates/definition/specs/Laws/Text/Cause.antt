@@ -11,7 +11,7 @@ use lib.Seq.{drop-append-seam}
 use Rattle.octets.specs.Bytes.{Bytes, begins}
 use Rattle.octets.specs.BoolLaws.{both-left, both-right, holds, true-holds, same-tests}
 use Rattle.octets.specs.SameLaws.{same-refl, same→eq, eq→same}
-use Rattle.definition.specs.Utf8.{leads, follows, utf8From, utf8}
+use Rattle.definition.specs.Utf8.{fits, widthIn, character, rowsFrom, utf8}
 use Rattle.definition.specs.Laws.Text.Utf8.{utf8-append}
 use Rattle.definition.specs.White.{trim, hasSpace}
 use Rattle.definition.specs.Laws.Text.White.{begins-split, begins-le, trim-none}
@@ -104,7 +104,7 @@ cause-length t c e =
 
 -- it is UTF-8 where the cause is
 pub cause-utf8 : (t c : Bytes) → causeOf t ≡ some c → utf8 t ≡ true → utf8 c ≡ true
-unfolding utf8 utf8From leads follows
+unfolding utf8 rowsFrom character widthIn fits
 cause-utf8 t c e h =
     by-cause (λ (x : Bytes). utf8 x ≡ true) t c e (λ n. h)
     (λ b d.

@@ -1,7 +1,7 @@
 -- A string without white space at both ends is a part of it, and is UTF-8 where the string is. For causes.
 use mathlib.Core.Path.{_≡_, refl, sym, ap, _∙_}
 use mathlib.Core.Bool.{Bool, true, false, cond, _&&_}
-use mathlib.Core.List.{List, [], _∷_, map}
+use mathlib.Core.List.{List, [], _∷_, _++_, map}
 use Prim.Native.Nat.{ℕ, zero, suc, pred, _≤_}
 use native.Mathlib.Omega.{arith}
 use lib.Dec.{T, eqb, leb, leb→le}
@@ -10,8 +10,8 @@ use lib.Seq.{take-at}
 use Rattle.octets.specs.Bytes.{Bytes, begins}
 use Rattle.octets.specs.BoolLaws.{both, both-left, both-right, holds, true-holds}
 use Rattle.octets.specs.RangeLaws.{eq-on}
-use Rattle.definition.specs.Utf8.{Range, Row, inside, rows, leads, follows, utf8From, utf8}
-use Rattle.definition.specs.Laws.Text.Utf8.{utf8-append}
+use Rattle.definition.specs.Utf8.{Range, Row, inside, fits, widthIn, character, rowsFrom, utf8}
+use Rattle.definition.specs.Laws.Text.Utf8.{by-suffix, allTails, Front, stuck, starts, front, utf8-next, utf8-stuck, utf8-front, utf8-append}
 use Rattle.definition.specs.White.{white, encoded, frontOf, space, startFrom, endFrom, keep, stay, trim}
 use Rattle.definition.specs.Laws.Text.White.{begins-split, space-front, start-space, start-plain, keepAll, end-space, end-plain}
 
@@ -62,7 +62,7 @@ allUtf8 [] = true
 allUtf8 (w ∷ ws) = utf8 w && allUtf8 ws
 
 front-utf8 : (ws : List Bytes) (s : Bytes) → T (allUtf8 ws) → utf8 (take (frontOf ws s) s) ≡ true
-unfolding frontOf utf8 utf8From
+unfolding frontOf utf8 rowsFrom
 front-utf8 [] s t = refl
 front-utf8 (w ∷ ws) s t = go (begins w s) refl (front-utf8 ws s (both-right (utf8 w) (allUtf8 ws) t))
   where
@@ -74,31 +74,21 @@ front-utf8 (w ∷ ws) s t = go (begins w s) refl (front-utf8 ws s (both-right (u
     go false e ih = ih
 
 space-utf8 : (s : Bytes) → utf8 (take (space s) s) ≡ true
-unfolding space utf8 utf8From leads follows
+unfolding space utf8 rowsFrom character widthIn fits
 space-utf8 s = front-utf8 (map encoded white) s tt
 
 behind-space : (s : Bytes) → utf8 (drop (space s) s) ≡ utf8 s
 behind-space s =
     sym (utf8-append (take (space s) s) (drop (space s) s) (space-utf8 s)) ∙ ap utf8 (take-append-drop (space s) s)
 
+-- what is left behind the white space at the front of b and s
+behind : (b : ℕ) (s : Bytes) (n : ℕ) → space (b ∷ s) ≡ suc n → drop (space (b ∷ s)) (b ∷ s) ≡ drop n s
+behind b s n z = ap (λ (k : ℕ). drop k (b ∷ s)) z
+
+behind-utf8 : (b : ℕ) (s : Bytes) (n : ℕ) → space (b ∷ s) ≡ suc n → utf8 (drop n s) ≡ utf8 (b ∷ s)
+behind-utf8 b s n z = ap utf8 (sym (behind b s n z)) ∙ behind-space (b ∷ s)
+
 -- ---- and none begins within a character
-
-abbrev allTails : List Range → Bool
-allTails [] = true
-allTails (r ∷ rs) = (leb 0x80 (r .lo) && leb (r .hi) 0xBF) && allTails rs
-
-abbrev rowTails : List Row → Bool
-rowTails [] = true
-rowTails (r ∷ rs) = allTails (r .rest) && rowTails rs
-
-follows-tails : (qs : List Row) (b : ℕ) → T (rowTails qs) → T (allTails (follows qs b))
-unfolding follows
-follows-tails [] b t = tt
-follows-tails (q ∷ qs) b t = go (inside (q .first) b) (follows-tails qs b (both-right (allTails (q .rest)) (rowTails qs) t))
-  where
-    go : (x : Bool) → T (allTails (follows qs b)) → T (allTails (cond x (q .rest) (follows qs b)))
-    go true ih = both-left (allTails (q .rest)) (rowTails qs) t
-    go false ih = ih
 
 tail-plain : (r : Range) (b : ℕ) (s : Bytes) → T (leb 0x80 (r .lo) && leb (r .hi) 0xBF) → T (inside r b) → space (b ∷ s) ≡ 0
 unfolding space frontOf begins
@@ -109,55 +99,48 @@ tail-plain r b s t i =
     let k = leb→le b (r .hi) (both-right (leb (r .lo) b) (leb b (r .hi)) i) in
     space-front (b ∷ s) ∙ sym (eq-on (λ (x : ℕ). space (x ∷ getD s 0 0 ∷ getD s 1 0 ∷ [])) 0 64 0x80 tt b (omega arith) (omega arith))
 
+-- the tails at the front of s stay at its end
+end-tails : (rs : Row) (s : Bytes) → T (allTails rs) → T (fits rs s) → endFrom 0 s ≡ take (length rs) s ++ endFrom 0 (drop (length rs) s)
+unfolding fits
+end-tails [] s t f = refl
+end-tails (r ∷ rs) [] t f = absurd f
+end-tails (r ∷ rs) (b ∷ s) t f =
+    let z = tail-plain r b s (both-left (leb 0x80 (r .lo) && leb (r .hi) 0xBF) (allTails rs) t) (both-left (inside r b) (fits rs s) f) in
+    let ih = end-tails rs s (both-right (leb 0x80 (r .lo) && leb (r .hi) 0xBF) (allTails rs) t) (both-right (inside r b) (fits rs s) f) in
+    end-plain b s z ∙ ap {B = Bytes} (λ x. b ∷ x) ih
+
 -- ---- so both ends are cut between characters
 
-start-utf8 : (s : Bytes) (n : ℕ) → utf8 (drop n s) ≡ true → utf8 (startFrom 0 (drop n s)) ≡ true
+start-utf8 : (s : Bytes) → utf8 s ≡ true → utf8 (startFrom 0 s) ≡ true
 unfolding startFrom
-start-utf8 [] zero e = e
-start-utf8 [] (suc n) e = e
-start-utf8 (b ∷ s) (suc n) e = start-utf8 s n e
-start-utf8 (b ∷ s) zero e = go (space (b ∷ s)) refl (start-utf8 s)
+start-utf8 = by-suffix (λ s. utf8 s ≡ true → utf8 (startFrom 0 s) ≡ true) (λ e. e) (λ b s ih e. go b s ih e (space (b ∷ s)) refl)
   where
-    go : (n : ℕ) → space (b ∷ s) ≡ n → ((n : ℕ) → utf8 (drop n s) ≡ true → utf8 (startFrom 0 (drop n s)) ≡ true) → utf8 (startFrom 0 (b ∷ s)) ≡ true
-    go zero z ih = ap utf8 (start-plain (b ∷ s) z) ∙ e
-    go (suc n) z ih =
-        let d : drop (space (b ∷ s)) (b ∷ s) ≡ drop n s = ap (λ (k : ℕ). drop k (b ∷ s)) z in
-        let f : utf8 (drop n s) ≡ true = ap utf8 (sym d) ∙ behind-space (b ∷ s) ∙ e in
-        ap utf8 (start-space (b ∷ s) (λ y. omega arith) ∙ ap (startFrom 0) d) ∙ ih n f
+    go : (b : ℕ) (s : Bytes) → ((n : ℕ) → utf8 (drop n s) ≡ true → utf8 (startFrom 0 (drop n s)) ≡ true) → utf8 (b ∷ s) ≡ true → (n : ℕ) → space (b ∷ s) ≡ n → utf8 (startFrom 0 (b ∷ s)) ≡ true
+    go b s ih e zero z = ap utf8 (start-plain (b ∷ s) z) ∙ e
+    go b s ih e (suc n) z =
+        ap utf8 (start-space (b ∷ s) (λ y. omega arith) ∙ ap (startFrom 0) (behind b s n z)) ∙ ih n (behind-utf8 b s n z ∙ e)
 
 kept : (w x : Bytes) → utf8 w ≡ true → utf8 x ≡ true → utf8 (keepAll w x) ≡ true
 kept w [] e f = f
 kept w (a ∷ x) e f = utf8-append w (a ∷ x) e ∙ f
 
-end-utf8 : (s : Bytes) (n : ℕ) (rs : List Range) → T (allTails rs) → T (utf8From rs (drop n s)) → T (utf8From rs (endFrom 0 (drop n s)))
-unfolding endFrom utf8From utf8
-end-utf8 [] zero rs t e = e
-end-utf8 [] (suc n) rs t e = e
-end-utf8 (b ∷ s) (suc n) rs t e = end-utf8 s n rs t e
-end-utf8 (b ∷ s) zero (r ∷ rs) t e =
-    let i = both-left (inside r b) (utf8From rs s) e in
-    let z = tail-plain r b s (both-left (leb 0x80 (r .lo) && leb (r .hi) 0xBF) (allTails rs) t) i in
-    rw (end-plain b s z)
-    (both (inside r b) (utf8From rs (endFrom 0 s)) i
-    (end-utf8 s 0 rs (both-right (leb 0x80 (r .lo) && leb (r .hi) 0xBF) (allTails rs) t) (both-right (inside r b) (utf8From rs s) e)))
-end-utf8 (b ∷ s) zero [] t e = go (space (b ∷ s)) refl (end-utf8 s)
+end-utf8 : (s : Bytes) → utf8 s ≡ true → utf8 (endFrom 0 s) ≡ true
+unfolding endFrom
+end-utf8 = by-suffix (λ s. utf8 s ≡ true → utf8 (endFrom 0 s) ≡ true) (λ e. e) (λ b s ih e. go b s ih e (space (b ∷ s)) refl (front b s))
   where
-    go : (n : ℕ) → space (b ∷ s) ≡ n
-        → ((n : ℕ) (rs : List Range) → T (allTails rs) → T (utf8From rs (drop n s)) → T (utf8From rs (endFrom 0 (drop n s))))
-        → T (utf8From [] (endFrom 0 (b ∷ s)))
-    go zero z ih =
-        rw (end-plain b s z)
-        (both (leads rows b) (utf8From (follows rows b) (endFrom 0 s)) (both-left (leads rows b) (utf8From (follows rows b) s) e)
-        (ih 0 (follows rows b) (follows-tails rows b tt) (both-right (leads rows b) (utf8From (follows rows b) s) e)))
-    go (suc n) z ih =
-        let d : drop (space (b ∷ s)) (b ∷ s) ≡ drop n s = ap (λ (k : ℕ). drop k (b ∷ s)) z in
-        let f : utf8 (drop n s) ≡ true = ap utf8 (sym d) ∙ behind-space (b ∷ s) ∙ holds _ e in
+    go : (b : ℕ) (s : Bytes) → ((n : ℕ) → utf8 (drop n s) ≡ true → utf8 (endFrom 0 (drop n s)) ≡ true) → utf8 (b ∷ s) ≡ true
+        → (n : ℕ) → space (b ∷ s) ≡ n → Front b s → utf8 (endFrom 0 (b ∷ s)) ≡ true
+    go b s ih e zero z (stuck c) = absurd (true-holds false (sym (utf8-stuck b s c) ∙ e))
+    go b s ih e zero z (starts rs t r f c) =
+        ap utf8 (end-plain b s z ∙ ap {B = Bytes} (λ x. b ∷ x) (end-tails rs s t f))
+        ∙ utf8-front b s (endFrom 0 (drop (length rs) s)) rs r f
+        ∙ ih (length rs) (sym (utf8-next b s (length rs) c) ∙ e)
+    go b s ih e (suc n) z v =
         let w = take (space (b ∷ s)) (b ∷ s) in
-        let x = endFrom 0 (drop n s) in
-        let g : utf8 x ≡ true = holds _ (ih n [] tt (true-holds _ f)) in
-        let p : endFrom 0 (b ∷ s) ≡ keepAll w x = end-space (b ∷ s) (λ y. omega arith) ∙ ap (λ (y : Bytes). keepAll w (endFrom 0 y)) d in
-        true-holds _ (ap utf8 p ∙ kept w x (space-utf8 (b ∷ s)) g)
+        let p : endFrom 0 (b ∷ s) ≡ keepAll w (endFrom 0 (drop n s)) =
+        end-space (b ∷ s) (λ y. omega arith) ∙ ap (λ (y : Bytes). keepAll w (endFrom 0 y)) (behind b s n z) in
+        ap utf8 p ∙ kept w (endFrom 0 (drop n s)) (space-utf8 (b ∷ s)) (ih n (behind-utf8 b s n z ∙ e))
 
 pub trim-utf8 : (s : Bytes) → utf8 s ≡ true → utf8 (trim s) ≡ true
-unfolding trim utf8
-trim-utf8 s e = holds _ (end-utf8 (startFrom 0 s) 0 [] tt (true-holds _ (start-utf8 s 0 e)))
+unfolding trim
+trim-utf8 s e = end-utf8 (startFrom 0 s) (start-utf8 s e)

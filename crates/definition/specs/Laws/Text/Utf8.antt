@@ -1,121 +1,168 @@
--- UTF-8: strings put together, and the definition as a run of rows. For causes, and for `utf8`.
+-- UTF-8: a character by its first byte, and strings put together. For causes, and for `utf8`.
 use mathlib.Core.Path.{_≡_, refl, sym, ap, _∙_, subst}
-use mathlib.Core.Logic.{_⊎_, inl, inr}
-use mathlib.Core.Bool.{Bool, true, false, cond, _&&_, _||_}
-use mathlib.Core.List.{List, [], _∷_, _++_, List·Memᴰ, List·Memᴰ·head, List·Memᴰ·tail, List·Memᴰ·not-nil, List·Memᴰ·cases-cons}
-use Prim.Native.Nat.{ℕ, _<_}
+use mathlib.Core.Bool.{Bool, true, false, cond, _&&_}
+use mathlib.Core.Option.{Option, none, some}
+use mathlib.Core.List.{List, [], _∷_, _++_, append-assoc}
+use Prim.Native.Nat.{ℕ, zero, suc, _≤_, _<_}
+use native.Mathlib.Decide.{decLt}
 use native.Mathlib.Omega.{arith}
 use borrow.Author.Tests.{lt-leb, ltb-true}
-use lib.Dec.{T, leb, leb→le, ltb}
+use lib.Dec.{T, leb, ltb, eqb·suc-zero}
+use lib.ListN.{length, take, drop, take-append-drop}
+use lib.Seq.{drop-at, length-take-le}
 use Rattle.octets.specs.Bytes.{Bytes}
 use Rattle.octets.specs.BoolLaws.{and-false, holds, true-holds, both-left, both-right}
-use Rattle.definition.specs.Utf8.{Range, Row, inside, rows, leads, follows, utf8From, utf8}
+use Rattle.octets.specs.RangeLaws.{on-range}
+use Rattle.definition.specs.Utf8.{Row, inside, rows, fits, widthIn, character, oneMore, rowsFrom, isRun, utf8}
 
--- ---- strings put together
+-- what holds of [], and of a string wherever it holds of all that is left of it behind its first byte, holds of every string
+pub by-suffix : (P : Bytes → Type 0) → P [] → ((b : ℕ) (s : Bytes) → ((n : ℕ) → P (drop n s)) → P (b ∷ s)) → (s : Bytes) → P s
+by-suffix P z f s = go s 0
+  where
+    go : (s : Bytes) (n : ℕ) → P (drop n s)
+    go [] zero = z
+    go [] (suc n) = z
+    go (b ∷ s) (suc n) = go s n
+    go (b ∷ s) zero = f b s (go s)
 
-from-append : (rs : List Range) (s t : Bytes) → T (utf8From rs s) → utf8From rs (s ++ t) ≡ utf8 t
-unfolding utf8From utf8
-from-append [] [] t h = refl
-from-append (r ∷ rs) [] t h = absurd h
-from-append [] (b ∷ s) t h =
-    rw (holds (leads rows b) (both-left (leads rows b) (utf8From (follows rows b) s) h))
-    (from-append (follows rows b) s t (both-right (leads rows b) (utf8From (follows rows b) s) h))
-from-append (r ∷ rs) (b ∷ s) t h =
-    rw (holds (inside r b) (both-left (inside r b) (utf8From rs s) h)) (from-append rs s t (both-right (inside r b) (utf8From rs s) h))
+-- ---- a character by its first byte
+
+-- what each row that b begins asks of the bytes behind it
+unfoldable pub rests : List Row → ℕ → List Row
+rests [] b = []
+rests ([] ∷ q) b = []
+rests ((r ∷ rs) ∷ q) b = cond (inside r b) (rs ∷ rests q b) (rests q b)
+
+-- how many bytes the character takes whose first byte asks for one of these
+unfoldable pub widthBehind : List Row → Bytes → ℕ
+widthBehind [] s = 0
+widthBehind (rs ∷ q) s = cond (fits rs s) (suc (length rs)) (widthBehind q s)
+
+by-rests : (q : List Row) (b : ℕ) (s : Bytes) → widthIn q (b ∷ s) ≡ widthBehind (rests q b) s
+unfolding widthIn widthBehind rests fits
+by-rests [] b s = refl
+by-rests ([] ∷ q) b s = refl
+by-rests ((r ∷ rs) ∷ q) b s = go (inside r b) (by-rests q b s)
+  where
+    go : (x : Bool) → widthIn q (b ∷ s) ≡ widthBehind (rests q b) s
+        → cond (x && fits rs s) (suc (length rs)) (widthIn q (b ∷ s)) ≡ widthBehind (cond x (rs ∷ rests q b) (rests q b)) s
+    go true ih = ap (cond (fits rs s) (suc (length rs))) ih
+    go false ih = ih
+
+pub by-first : (b : ℕ) (s : Bytes) → character (b ∷ s) ≡ widthBehind (rests rows b) s
+unfolding character
+by-first b s = by-rests rows b s
+
+-- tails, or bytes from a part of their range
+abbrev pub allTails : Row → Bool
+allTails [] = true
+allTails (r ∷ rs) = (leb 0x80 (r .lo) && leb (r .hi) 0xBF) && allTails rs
+
+-- at most one row, and nothing but tails in it
+abbrev pub lone : List Row → Bool
+lone [] = true
+lone (rs ∷ []) = allTails rs
+lone (rs ∷ (rs′ ∷ q)) = false
+
+-- no row begins with a byte from h on
+abbrev pub endBefore : ℕ → List Row → Bool
+endBefore h [] = true
+endBefore h ([] ∷ q) = true
+endBefore h ((r ∷ rs) ∷ q) = ltb (r .hi) h && endBefore h q
+
+pub none-from : (h b : ℕ) (q : List Row) → T (endBefore h q) → h ≤ b → rests q b ≡ []
+unfolding rests
+none-from h b [] t l = refl
+none-from h b ([] ∷ q) t l = refl
+none-from h b ((r ∷ rs) ∷ q) t l =
+    let k = ltb-true (r .hi) h (holds _ (both-left (ltb (r .hi) h) (endBefore h q) t)) in
+    rw (lt-leb b (r .hi) (omega arith), and-false (leb (r .lo) b)) (none-from h b q (both-right (ltb (r .hi) h) (endBefore h q) t) l)
+
+pub lone-rests : (b : ℕ) → T (lone (rests rows b))
+unfolding rests
+lone-rests b = go (decLt b 0xF5)
+  where
+    go : Dec (b < 0xF5) → T (lone (rests rows b))
+    go (yes l) = on-range (λ x. lone (rests rows x)) 0xF5 0 tt b (omega arith) (omega arith)
+    go (no l) = subst (λ (q : List Row). T (lone q)) (sym (none-from 0xF5 b rows tt (omega arith))) tt
+
+-- ---- what stands at the front of b and s: no character, or one, whose other bytes are tails
+
+pub data Front (b : ℕ) (s : Bytes) : Type 0 where
+  stuck : character (b ∷ s) ≡ 0 → Front b s
+  starts : (rs : Row) → T (allTails rs) → rests rows b ≡ rs ∷ [] → T (fits rs s) → character (b ∷ s) ≡ suc (length rs) → Front b s
+
+pub front : (b : ℕ) (s : Bytes) → Front b s
+unfolding widthBehind
+front b s = go (rests rows b) refl (lone-rests b)
+  where
+    go : (q : List Row) → rests rows b ≡ q → T (lone q) → Front b s
+    go [] e t = stuck (by-first b s ∙ rw e)
+    go (rs ∷ []) e t = on (fits rs s) refl
+      where
+        on : (x : Bool) → fits rs s ≡ x → Front b s
+        on true f = starts rs t e (true-holds _ f) (by-first b s ∙ rw (e, f))
+        on false f = stuck (by-first b s ∙ rw (e, f))
+    go (rs ∷ (rs′ ∷ q)) e t = absurd t
+
+-- its bytes alone decide on it, whatever follows them
+fits-own : (rs : Row) (s x : Bytes) → T (fits rs s) → fits rs (take (length rs) s ++ x) ≡ true
+unfolding fits
+fits-own [] s x t = refl
+fits-own (r ∷ rs) [] x t = absurd t
+fits-own (r ∷ rs) (b ∷ s) x t =
+    rw (holds (inside r b) (both-left (inside r b) (fits rs s) t)) (fits-own rs s x (both-right (inside r b) (fits rs s) t))
+
+pub fits-le : (rs : Row) (s : Bytes) → T (fits rs s) → length rs ≤ length s
+unfolding fits
+fits-le [] s t = omega arith
+fits-le (r ∷ rs) [] t = absurd t
+fits-le (r ∷ rs) (b ∷ s) t = let l = fits-le rs s (both-right (inside r b) (fits rs s) t) in omega arith
+
+-- ---- runs, character by character
+
+rows-skip : (n : ℕ) (s : Bytes) → rowsFrom n s ≡ rowsFrom 0 (drop n s)
+unfolding rowsFrom
+rows-skip zero s = refl
+rows-skip (suc n) [] = refl
+rows-skip (suc n) (b ∷ s) = rows-skip n s
+
+pub rows-next : (b : ℕ) (s : Bytes) (n : ℕ) → character (b ∷ s) ≡ suc n → rowsFrom 0 (b ∷ s) ≡ oneMore (rowsFrom 0 (drop n s))
+unfolding rowsFrom
+rows-next b s n e = rw (e, eqb·suc-zero n) (ap oneMore (rows-skip n s))
+
+pub rows-stuck : (b : ℕ) (s : Bytes) → character (b ∷ s) ≡ 0 → rowsFrom 0 (b ∷ s) ≡ none
+unfolding rowsFrom
+rows-stuck b s e = rw e
+
+run-more : (o : Option ℕ) → isRun (oneMore o) ≡ isRun o
+run-more none = refl
+run-more (some n) = refl
+
+-- whether s is UTF-8 is decided behind its first character, or at once where it begins with none
+pub utf8-next : (b : ℕ) (s : Bytes) (n : ℕ) → character (b ∷ s) ≡ suc n → utf8 (b ∷ s) ≡ utf8 (drop n s)
+unfolding utf8
+utf8-next b s n e = ap isRun (rows-next b s n e) ∙ run-more (rowsFrom 0 (drop n s))
+
+pub utf8-stuck : (b : ℕ) (s : Bytes) → character (b ∷ s) ≡ 0 → utf8 (b ∷ s) ≡ false
+unfolding utf8
+utf8-stuck b s e = ap isRun (rows-stuck b s e)
+
+-- the first character of b and s stays one where other bytes stand behind it
+pub utf8-front : (b : ℕ) (s x : Bytes) (rs : Row) → rests rows b ≡ rs ∷ [] → T (fits rs s) → utf8 (b ∷ (take (length rs) s ++ x)) ≡ utf8 x
+unfolding widthBehind
+utf8-front b s x rs e f =
+    utf8-next b (take (length rs) s ++ x) (length rs) (by-first b (take (length rs) s ++ x) ∙ rw (e, fits-own rs s x f))
+    ∙ ap utf8 (drop-at (take (length rs) s) x (length rs) (length-take-le (length rs) s (fits-le rs s f)))
 
 pub utf8-append : (s t : Bytes) → utf8 s ≡ true → utf8 (s ++ t) ≡ utf8 t
-unfolding utf8
-utf8-append s t e = from-append [] s t (true-holds _ e)
-
--- ---- a run of rows
-
--- a byte in each of the ranges
-pub data Fill : List Range → Bytes → Type 0 where
-  none : Fill [] []
-  byte : {r : Range} {rs : List Range} {b : ℕ} {s : Bytes} → T (inside r b) → Fill rs s → Fill (r ∷ rs) (b ∷ s)
-
--- no character, or the bytes of a row and then a run
-pub data Run : Bytes → Type 0 where
-  end : Run []
-  char : {r : Row} {w s t : Bytes} → List·Memᴰ r rows → Fill (r .first ∷ r .rest) w → Run s → t ≡ w ++ s → Run t
-
--- the first bytes of the rows of rs are above h
-abbrev above : ℕ → List Row → Bool
-above h [] = true
-above h (q ∷ qs) = ltb h (q .first .lo) && above h qs
-
--- the first bytes rise from row to row
-abbrev rising : List Row → Bool
-rising [] = true
-rising (r ∷ rs) = above (r .first .hi) rs && rising rs
-
-above-row : (h : ℕ) (qs : List Row) {r : Row} → T (above h qs) → List·Memᴰ r qs → h < r .first .lo
-above-row h [] t m = absurd (List·Memᴰ·not-nil m)
-above-row h (q ∷ qs) {r} t m = go (List·Memᴰ·cases-cons m) (above-row h qs (both-right (ltb h (q .first .lo)) (above h qs) t))
+utf8-append s t = by-suffix (λ s. utf8 s ≡ true → utf8 (s ++ t) ≡ utf8 t) (λ e. refl) (λ b s ih e. go b s ih e (front b s)) s
   where
-    go : (r ≡ q) ⊎ List·Memᴰ r qs → (List·Memᴰ r qs → h < r .first .lo) → h < r .first .lo
-    go (inl e) ih = subst (λ (x : Row). h < x .first .lo) (sym e) (ltb-true h _ (holds _ (both-left (ltb h (q .first .lo)) (above h qs) t)))
-    go (inr k) ih = ih k
-
--- what follows a byte is the rest of the row that it begins
-row-of : (qs : List Row) {r : Row} (b : ℕ) → T (rising qs) → List·Memᴰ r qs → T (inside (r .first) b) → (leads qs b ≡ true) × (follows qs b ≡ r .rest)
-unfolding leads follows
-row-of [] b t m i = absurd (List·Memᴰ·not-nil m)
-row-of (q ∷ qs) {r} b t m i = go (List·Memᴰ·cases-cons m) (row-of qs b (both-right (above (q .first .hi) qs) (rising qs) t))
-  where
-    go : (r ≡ q) ⊎ List·Memᴰ r qs
-        → (List·Memᴰ r qs → T (inside (r .first) b) → (leads qs b ≡ true) × (follows qs b ≡ r .rest))
-        → (inside (q .first) b || leads qs b ≡ true) × (cond (inside (q .first) b) (q .rest) (follows qs b) ≡ r .rest)
-    go (inl e) ih =
-        let h = holds (inside (q .first) b) (subst (λ (x : Row). T (inside (x .first) b)) e i) in
-        (rw h refl, rw h (ap (λ (x : Row). x .rest) (sym e)))
-    go (inr k) ih =
-        let l = above-row (q .first .hi) qs (both-left (above (q .first .hi) qs) (rising qs) t) k in
-        let g = leb→le (r .first .lo) b (both-left (leb (r .first .lo) b) (leb b (r .first .hi)) i) in
-        let h : inside (q .first) b ≡ false = rw (lt-leb b (q .first .hi) (omega arith)) (and-false (leb (q .first .lo) b)) in
-        let p = ih k i in
-        (rw h (p .0), rw h (p .1))
-
-fill-utf8 : {rs : List Range} {w : Bytes} (s : Bytes) → Fill rs w → utf8From rs (w ++ s) ≡ utf8 s
-unfolding utf8From utf8
-fill-utf8 s none = refl
-fill-utf8 s (byte {r = r} {b = b} h f) = rw (holds (inside r b) h) (fill-utf8 s f)
-
-pub run-utf8 : {s : Bytes} → Run s → utf8 s ≡ true
-unfolding utf8 utf8From
-run-utf8 end = refl
-run-utf8 (char {s = s} m (byte {b = b} h f) run e) =
-    let p = row-of rows b tt m h in
-    ap utf8 e ∙ rw (p .0, p .1) (fill-utf8 s f ∙ run-utf8 run)
-
--- the row that a byte begins
-row-at : (qs : List Row) (b : ℕ) → T (leads qs b) → (r : Row) × List·Memᴰ r qs × T (inside (r .first) b) × (follows qs b ≡ r .rest)
-unfolding leads follows
-row-at [] b t = absurd t
-row-at (q ∷ qs) b t = go (inside (q .first) b) refl t (row-at qs b)
-  where
-    go : (x : Bool) → inside (q .first) b ≡ x → T (x || leads qs b)
-        → (T (leads qs b) → (r : Row) × List·Memᴰ r qs × T (inside (r .first) b) × (follows qs b ≡ r .rest))
-        → (r : Row) × List·Memᴰ r (q ∷ qs) × T (inside (r .first) b) × (cond x (q .rest) (follows qs b) ≡ r .rest)
-    go true e u ih = (q, List·Memᴰ·head refl, true-holds _ e, refl)
-    go false e u ih = let p = ih u in (p .0, List·Memᴰ·tail (p .1), p .2, p .3)
-
-split-run : (rs : List Range) (s : Bytes) → T (utf8From rs s) → (w : Bytes) × (t : Bytes) × Fill rs w × Run t × (s ≡ w ++ t)
-unfolding utf8From
-split-run [] [] h = ([], [], none, end, refl)
-split-run (r ∷ rs) [] h = absurd h
-split-run (r ∷ rs) (b ∷ s) h =
-    let p = split-run rs s (both-right (inside r b) (utf8From rs s) h) in
-    (b ∷ p .0, p .1, byte (both-left (inside r b) (utf8From rs s) h) (p .2), p .3, ap {B = Bytes} (λ x. b ∷ x) (p .4))
-split-run [] (b ∷ s) h =
-    let q = row-at rows b (both-left (leads rows b) (utf8From (follows rows b) s) h) in
-    let p = split-run (follows rows b) s (both-right (leads rows b) (utf8From (follows rows b) s) h) in
-    let f = subst (λ (x : List Range). Fill x (p .0)) (q .3) (p .2) in
-    ([], b ∷ s, none, char (q .1) (byte (q .2) f) (p .3) (ap {B = Bytes} (λ x. b ∷ x) (p .4)), refl)
-
-pub utf8-run : (s : Bytes) → utf8 s ≡ true → Run s
-unfolding utf8
-utf8-run s e = go (split-run [] s (true-holds _ e))
-  where
-    go : (w : Bytes) × (t : Bytes) × Fill [] w × Run t × (s ≡ w ++ t) → Run s
-    go (w, t, none, run, p) = subst Run (sym p) run
+    go : (b : ℕ) (s : Bytes) → ((n : ℕ) → utf8 (drop n s) ≡ true → utf8 (drop n s ++ t) ≡ utf8 t) → utf8 (b ∷ s) ≡ true → Front b s → utf8 (b ∷ (s ++ t)) ≡ utf8 t
+    go b s ih e (stuck c) = absurd (true-holds false (sym (utf8-stuck b s c) ∙ e))
+    go b s ih e (starts rs a r f c) =
+        let k = length rs in
+        ap (λ (y : Bytes). utf8 (b ∷ (y ++ t))) (sym (take-append-drop k s))
+        ∙ ap (λ (y : Bytes). utf8 (b ∷ y)) (append-assoc (take k s) (drop k s) t)
+        ∙ utf8-front b s (drop k s ++ t) rs r f
+        ∙ ih k (sym (utf8-next b s k c) ∙ e)
