@@ -65,9 +65,9 @@ def cuts(s):
     return [s[:n] for n in range(len(s))]
 
 
-def ascii_bytes(n, seed=0):
+def ascii_bytes(n, seed=0, some=b"\x7f\x00aZ~\x01 "):
     """Some ASCII, the least and the greatest byte among it."""
-    return bytes(b"\x7f\x00aZ~\x01 "[(seed + i) % 7] for i in range(n))
+    return bytes(some[(seed + i) % len(some)] for i in range(n))
 
 
 def at_edges():
@@ -88,21 +88,26 @@ def side_by_side():
     yield from (s * 17 for s in LASTS)
 
 
-def in_ascii():
-    """Characters, whole and cut, and bytes that fit nowhere, with more ASCII behind, between and before them than every text has."""
+def in_long_ascii():
+    """Characters, whole and cut, and bytes that fit nowhere, with more ASCII behind and before them than every text has."""
     broken = [cut for s in FIRSTS + LASTS for cut in cuts(s)] + [b"\x80", b"\xbf", b"\xc1", b"\xf5", b"\xff"]
     yield from (s + ascii_bytes(24) for s in FIRSTS + LASTS + broken)
-    for n, s in itertools.product(range(1, 18), [*cuts(LASTS[-1]), LASTS[-1]]):
-        yield LASTS[1] + ascii_bytes(n) + s
     for s in {len(s): s for s in LASTS}.values():
         yield from (ascii_bytes(240) + s, ascii_bytes(240) + s[:-1])
+
+
+def ascii_between():
+    """ASCII between two characters, between a character and a cut one, and within a character."""
+    for n, s in itertools.product(range(1, 18), [*cuts(LASTS[-1]), LASTS[-1]]):
+        yield from (LASTS[1] + ascii_bytes(n) + s, s + ascii_bytes(n) + LASTS[-1][len(s):])
+    yield from (cut + ascii_bytes(8) + s[len(cut):] for s in FIRSTS + LASTS for cut in cuts(s))
 
 
 # ---- the files
 
 def text(number, s):
-    """A string in ASCII, which is not the same for all numbers."""
-    return ascii_bytes(BEFORE, number) + s + ascii_bytes(BEHIND, number + 3)
+    """A string in ASCII that is not the same for all numbers. Next before it are bytes below 40: an or of these with a tail is below C0."""
+    return ascii_bytes(BEFORE - 10, number) + ascii_bytes(10, number, b"\x00\x01 ?") + s + ascii_bytes(BEHIND, number)
 
 
 def line(whole):
@@ -115,7 +120,7 @@ def line(whole):
 
 def main():
     tails = [bytes(tail) for n in range(3) for tail in itertools.product(edges(*TAIL), repeat=n)]
-    strings = dict.fromkeys([*at_edges(), *side_by_side(), *in_ascii()])
+    strings = dict.fromkeys([*at_edges(), *side_by_side(), *in_long_ascii(), *ascii_between()])
     texts = [text(number, s) for number, s in enumerate(strings)]
     lines = [f"empty {int(accepted(b''))}", "single bytes" + shown(accepted(bytes([b])) for b in range(256))]
     lines += [*itertools.chain.from_iterable(map(pairs, tails)), "\ntexts", *map(line, texts)]
