@@ -198,6 +198,8 @@ DAMAGES = {
         ("a digest", VECTORS, r"^e3b0c44298fc1c14", "e3b0c44298fc1c15"),
         ("a digest too many", VECTORS, r"\Z", "00\n"),
         ("a verdict", "crates/register_damaged/stdout", r"^unsound", "sound"),
+        ("second bytes of a row of UTF-8", "crates/utf8_vectors/stdout", r"^ed-ed: 80-9f", "ed-ed: 80-bf"),
+        ("other ASCII in the texts, of which stdin alone speaks", "tests/vectors/utf8.py", r"BEHIND, number", "BEHIND, number + 1"),
     ],
     (repository, "files are in rt fmt's layout"): [
         ("a blank too many", CODE, r"pub fn equal", "pub  fn equal"),

@@ -24,7 +24,7 @@ HOME = {name: module for module, names in MEANING.items() for name in names}
 
 # The scripts that write what programs are to read and to print, and the files that they write.
 SCRIPTS = ["tests/vectors/*.py", "tests/calls/make.py", "tests/register/make.py"]
-WRITTEN = ["crates/*_vectors/stdout", "crates/calls_replay/std*", "crates/register_damaged/std*"]
+WRITTEN = ["crates/*_vectors/std*", "crates/calls_replay/std*", "crates/register_damaged/std*"]
 # What the scripts read.
 SOURCES = ["tests/**/*.py", "compare/*.py", "docs/layout.json"]
 

@@ -1,0 +1,132 @@
+#!/usr/bin/env python3
+"""Writes crates/utf8_vectors/stdin and stdout: strings to try, and which strings the program is to accept, by Python's UTF-8 decoder.
+
+The rows of RFC 3629, section 4, say here where edges are, and so which strings are worth a try; the decoder alone says which are accepted.
+In stdin each text is a u16 length, big-endian, and its bytes: 20 of ASCII, a string, and 8 of ASCII.
+"""
+import itertools
+from pathlib import Path
+
+CRATE = Path(__file__).resolve().parents[2] / "crates" / "utf8_vectors"
+
+TAIL = (0x80, 0xBF)
+ROWS = [
+    [(0x00, 0x7F)],
+    [(0xC2, 0xDF), TAIL],
+    [(0xE0, 0xE0), (0xA0, 0xBF), TAIL],
+    [(0xE1, 0xEC), TAIL, TAIL],
+    [(0xED, 0xED), (0x80, 0x9F), TAIL],
+    [(0xEE, 0xEF), TAIL, TAIL],
+    [(0xF0, 0xF0), (0x90, 0xBF), TAIL, TAIL],
+    [(0xF1, 0xF3), TAIL, TAIL, TAIL],
+    [(0xF4, 0xF4), (0x80, 0x8F), TAIL, TAIL],
+]
+# The first and the last character of each row.
+FIRSTS, LASTS = ([bytes(ends[k] for ends in row) for row in ROWS] for k in (0, 1))
+# How many bytes of ASCII a text has before its string, and behind it.
+BEFORE, BEHIND = 20, 8
+
+
+def accepted(s):
+    """Whether s is UTF-8, by Python."""
+    try:
+        s.decode("utf-8")
+    except UnicodeDecodeError:
+        return False
+    return True
+
+
+def edges(lo, hi):
+    """A range's ends and their neighbours outside."""
+    return sorted({lo - 1, lo, hi, hi + 1} & set(range(256)))
+
+
+# ---- pairs of a first and a second byte
+
+def shown(marked):
+    """The ranges of the bytes that are marked, each behind a blank."""
+    runs = [[b for b, _ in run] for good, run in itertools.groupby(enumerate(marked), lambda item: item[1]) if good]
+    return "".join(f" {run[0]:02x}-{run[-1]:02x}" for run in runs)
+
+
+def pairs(tail):
+    """The lines of a tail: first bytes side by side that have the same second bytes are one."""
+    found = [shown(accepted(bytes([first, second]) + tail) for second in range(256)) for first in range(256)]
+    yield "\ntail" + "".join(f" {b:02x}" for b in tail)
+    for ranges, run in itertools.groupby(range(256), found.__getitem__):
+        firsts = list(run)
+        yield f"{firsts[0]:02x}-{firsts[-1]:02x}:{ranges}"
+
+
+# ---- strings
+
+def cuts(s):
+    """What s begins with, s itself left out."""
+    return [s[:n] for n in range(len(s))]
+
+
+def ascii_bytes(n, seed=0, some=b"\x7f\x00aZ~\x01 "):
+    """Some ASCII, the least and the greatest byte among it."""
+    return bytes(some[(seed + i) % len(some)] for i in range(n))
+
+
+def at_edges():
+    """Each byte by itself, and for each row bytes at and around the ends of its ranges, with all cuts."""
+    yield from (bytes([b]) for b in range(256))
+    for row in ROWS:
+        for edge in map(bytes, itertools.product(*(edges(lo, hi) for lo, hi in row))):
+            yield from [*cuts(edge), edge]
+
+
+def side_by_side():
+    """Characters at the corners of the rows, whole and cut, with a byte too many or another character behind them."""
+    corners = [bytes(corner) for row in ROWS for corner in itertools.product(*row)]
+    yield from (s + bytes([tail]) for s in corners for tail in TAIL)
+    yield from (s + t for s in FIRSTS + LASTS for t in FIRSTS + LASTS)
+    yield from (cut + t for s in FIRSTS + LASTS for cut in cuts(s) for t in FIRSTS)
+    yield from (s + cut for s in FIRSTS for cut in cuts(LASTS[-1]))
+    yield from (s * 17 for s in LASTS)
+
+
+def in_long_ascii():
+    """Characters, whole and cut, and bytes that fit nowhere, with more ASCII behind and before them than every text has."""
+    broken = [cut for s in FIRSTS + LASTS for cut in cuts(s)] + [b"\x80", b"\xbf", b"\xc1", b"\xf5", b"\xff"]
+    yield from (s + ascii_bytes(24) for s in FIRSTS + LASTS + broken)
+    for s in {len(s): s for s in LASTS}.values():
+        yield from (ascii_bytes(240) + s, ascii_bytes(240) + s[:-1])
+
+
+def ascii_between():
+    """ASCII between two characters, between a character and a cut one, and within a character."""
+    for n, s in itertools.product(range(1, 18), [*cuts(LASTS[-1]), LASTS[-1]]):
+        yield from (LASTS[1] + ascii_bytes(n) + s, s + ascii_bytes(n) + LASTS[-1][len(s):])
+    yield from (cut + ascii_bytes(8) + s[len(cut):] for s in FIRSTS + LASTS for cut in cuts(s))
+
+
+# ---- the files
+
+def text(number, s):
+    """A string in ASCII that is not the same for all numbers. Next before it are bytes below 40: an or of these with a tail is below C0."""
+    return ascii_bytes(BEFORE - 10, number) + ascii_bytes(10, number, b"\x00\x01 ?") + s + ascii_bytes(BEHIND, number)
+
+
+def line(whole):
+    """A text's line: its string, and for each place up to it how many of nine ends of the text are accepted: all or none, so that the
+    number says it of each."""
+    counts = [sum(accepted(whole[begin:len(whole) - out]) for out in range(BEHIND + 1)) for begin in range(BEFORE + 1)]
+    assert set(counts) <= {0, BEHIND + 1}, f"{whole.hex()}: a number that does not say which"
+    return f"{whole[BEFORE:-BEHIND].hex()} {''.join(map(str, counts))}"
+
+
+def main():
+    tails = [bytes(tail) for n in range(3) for tail in itertools.product(edges(*TAIL), repeat=n)]
+    strings = dict.fromkeys([*at_edges(), *side_by_side(), *in_long_ascii(), *ascii_between()])
+    texts = [text(number, s) for number, s in enumerate(strings)]
+    lines = [f"empty {int(accepted(b''))}", "single bytes" + shown(accepted(bytes([b])) for b in range(256))]
+    lines += [*itertools.chain.from_iterable(map(pairs, tails)), "\ntexts", *map(line, texts)]
+    (CRATE / "stdin").write_bytes(b"".join(len(whole).to_bytes(2, "big") + whole for whole in texts))
+    (CRATE / "stdout").write_text("".join(f"{row}\n" for row in lines))
+
+
+if __name__ == "__main__":
+    main()
