@@ -1,10 +1,10 @@
 /* What the check of a register's soundness costs. Every call starts with it; an empty call is refused (23) right after it, so the time of
    alarm_step with an empty call is the check's own.
 
-   Four registers of each size: all records free; full of typical alarms whose strings have the same lengths in all records (alike); full
-   of alarms whose strings vary by a quarter around these lengths (varied), which a processor predicts less well; and those again with two
-   letters in each text that are not ASCII (accented). Printed are nanoseconds per record (the least and the median of many runs) and bytes
-   per second (of the least), and beside them those of a bare read of the same bytes.
+   Five registers of each size: all records free; full of typical alarms whose strings have the same lengths in all records (alike); full
+   of alarms whose strings vary by a quarter around these lengths (varied), which a processor predicts less well; those again with two
+   letters in each text that are not ASCII (accented); and with no other letters in the text (cyrillic). Printed are nanoseconds per record
+   (the least and the median of many runs) and bytes per second (of the least), and beside them those of a bare read of the same bytes.
 
    Each is measured twice: in memory of ordinary pages, and of large ones, for which a program asks Linux by madvise. A register of 154 MB
    has more ordinary pages than a processor keeps in mind.
@@ -48,7 +48,7 @@ typedef struct {
 typedef enum { ORDINARY = MADV_NOHUGEPAGE, LARGE = MADV_HUGEPAGE } Pages;
 
 /* What the strings of a register's alarms are. */
-typedef enum { ALIKE, VARIED, ACCENTED } Strings;
+typedef enum { ALIKE, VARIED, ACCENTED, CYRILLIC } Strings;
 
 typedef struct {
     double least, median;
@@ -140,6 +140,13 @@ static void put_accents(uint8_t *slot) {
     memcpy(slot + 2 + 30, "\303\266", 2);
 }
 
+/* Letters of two bytes alone; of a text of odd length the last byte stays ASCII. */
+static void put_cyrillic(uint8_t *slot) {
+    uint32_t length = (uint32_t)slot[0] << 8 | slot[1];
+    for (uint32_t i = 0; i + 1 < length; i += 2)
+        memcpy(slot + 2 + i, "\320\266", 2);
+}
+
 /* An alarm: id, type, a cause by name, an object of two strings, tenant, text and details. */
 static void put_alarm(uint8_t *record, uint32_t i, Strings strings) {
     put(record + KEY, i, 16);
@@ -157,6 +164,8 @@ static void put_alarm(uint8_t *record, uint32_t i, Strings strings) {
     put_option(record + DETAILS, length_of(80, strings), i);
     if (strings == ACCENTED)
         put_accents(record + TEXT);
+    if (strings == CYRILLIC)
+        put_cyrillic(record + TEXT);
 }
 
 static void put_head(Register r, size_t head, uint32_t first, uint32_t count) {
@@ -272,6 +281,8 @@ static void measure_all(const char *name, Pages pages) {
         measure(r, "varied");
         fill(r, ACCENTED);
         measure(r, "accented");
+        fill(r, CYRILLIC);
+        measure(r, "cyrillic");
         free(r.bytes);
     }
 }

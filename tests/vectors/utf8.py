@@ -5,22 +5,15 @@ The rows of RFC 3629, section 4, say here where edges are, and so which strings 
 In stdin each text is a u16 length, big-endian, and its bytes: 20 of ASCII, a string, and 8 of ASCII.
 """
 import itertools
+import sys
 from pathlib import Path
 
-CRATE = Path(__file__).resolve().parents[2] / "crates" / "utf8_vectors"
+ROOT = Path(__file__).resolve().parents[2]
+sys.path.insert(1, str(ROOT / "tests" / "calls"))
+from reading import ROWS, TAIL
 
-TAIL = (0x80, 0xBF)
-ROWS = [
-    [(0x00, 0x7F)],
-    [(0xC2, 0xDF), TAIL],
-    [(0xE0, 0xE0), (0xA0, 0xBF), TAIL],
-    [(0xE1, 0xEC), TAIL, TAIL],
-    [(0xED, 0xED), (0x80, 0x9F), TAIL],
-    [(0xEE, 0xEF), TAIL, TAIL],
-    [(0xF0, 0xF0), (0x90, 0xBF), TAIL, TAIL],
-    [(0xF1, 0xF3), TAIL, TAIL, TAIL],
-    [(0xF4, 0xF4), (0x80, 0x8F), TAIL, TAIL],
-]
+CRATE = ROOT / "crates" / "utf8_vectors"
+
 # The first and the last character of each row.
 FIRSTS, LASTS = ([bytes(ends[k] for ends in row) for row in ROWS] for k in (0, 1))
 # How many bytes of ASCII a text has before its string, and behind it.

@@ -1,9 +1,8 @@
--- Bytes in a range; and the row of a first byte, by one test that is computed.
+-- Bytes in a range; a row behind its first byte; and the row of a first byte, by one test that is computed.
 use mathlib.Core.Path.{_≡_, refl, sym, ap, _∙_}
 use mathlib.Core.Bool.{Bool, true, false, cond, _&&_}
 use mathlib.Core.List.{List, [], _∷_}
 use Prim.Native.Nat.{ℕ, zero, suc, _+_, _-_, _≤_, _<_}
-use native.Mathlib.Decide.{decLt}
 use native.Mathlib.Omega.{arith}
 use native.Mathlib.Numerals.{add-one}
 use borrow.Author.Tests.{le-leb, lt-leb}
@@ -14,9 +13,8 @@ use Rattle.octets.specs.Bytes.{Bytes}
 use Rattle.octets.specs.BoolLaws.{and-false, fails, both-left, both-right}
 use Rattle.octets.specs.RangeLaws.{upto, on-range}
 use Rattle.definition.specs.Utf8.{Range, Row, inside, tail, rows, fits, widthIn, character}
-use Rattle.definition.specs.Laws.Text.Utf8.{rests, widthBehind, by-first, none-from, fits-le}
-use Rattle.utf8.specs.Meaning.{allInside, rowWidth}
-use Rattle.utf8.specs.PlainLaws.{plain-character}
+use Rattle.definition.specs.Laws.Text.Utf8.{rests, widthBehind, by-first, fits-le}
+use Rattle.utf8.specs.Meaning.{allInside, secondThenTails, rowWidth}
 
 -- ---- a byte and a range
 
@@ -54,7 +52,7 @@ tails-fit (suc n) (b ∷ s) h = ap (λ (t : Bool). inside tail b && t) (tails-fi
 pub row-short : (n : ℕ) (r : Range) (s : Bytes) → 2 ≤ n → length s < n → 0 ≡ rowWidth n r s
 unfolding rowWidth
 row-short n r s h l =
-    rw (fails (fits (r ∷ replicate (n - 2) tail) (drop 1 s)) (λ t. omega (arith, fits-le _ _ t, length-replicate (n - 2) tail, length-drop 1 s)))
+    rw (fails (fits (secondThenTails n r) (drop 1 s)) (λ t. omega (arith, fits-le _ _ t, length-replicate (n - 2) tail, length-drop 1 s)))
 
 pub row-second : (n : ℕ) (r : Range) (s : Bytes) → 1 < length s → inside r (getD s 1 0) ≡ false → 0 ≡ rowWidth n r s
 unfolding rowWidth fits
@@ -67,9 +65,9 @@ row-tails n r s t h l low high e =
     let k : 1 < length s = omega arith in
     rw (drop-cons s 1 0 k, inside-range r (getD s 1 0) low high, tails-fit (n - 2) (drop 2 s) (omega (arith, length-drop 2 s)), e)
 
--- ---- a character by its first byte, by a test that is computed for each of a range
+-- ---- what may follow a first byte, by a test that is computed for each byte of a range
 
-abbrev alike : Range → Range → Bool
+abbrev pub alike : Range → Range → Bool
 alike r q = eqb (r .lo) (q .lo) && eqb (r .hi) (q .hi)
 
 alike-eq : (r q : Range) → T (alike r q) → r ≡ q
@@ -78,66 +76,54 @@ alike-eq r q t =
     let h = eqb→eq (r .hi) (q .hi) (both-right (eqb (r .lo) (q .lo)) (eqb (r .hi) (q .hi)) t) in
     λ i. record { lo = l i; hi = h i }
 
-abbrev allAlike : Row → Row → Bool
-allAlike [] [] = true
-allAlike [] (q ∷ qs) = false
-allAlike (r ∷ rs) [] = false
-allAlike (r ∷ rs) (q ∷ qs) = alike r q && allAlike rs qs
+-- lists whose elements pass a test of two, one by one
+abbrev pub allPass : {A : Type 0} → (A → A → Bool) → List A → List A → Bool
+allPass test [] [] = true
+allPass test [] (b ∷ m) = false
+allPass test (a ∷ l) [] = false
+allPass test (a ∷ l) (b ∷ m) = test a b && allPass test l m
 
-all-alike-eq : (rs qs : Row) → T (allAlike rs qs) → rs ≡ qs
-all-alike-eq [] [] t = refl
-all-alike-eq [] (q ∷ qs) t = absurd t
-all-alike-eq (r ∷ rs) [] t = absurd t
-all-alike-eq (r ∷ rs) (q ∷ qs) t =
-    let e = alike-eq r q (both-left (alike r q) (allAlike rs qs) t) in
-    let es = all-alike-eq rs qs (both-right (alike r q) (allAlike rs qs) t) in
+all-pass-eq : {A : Type 0} (test : A → A → Bool) → ((a b : A) → T (test a b) → a ≡ b) → (l m : List A) → T (allPass test l m) → l ≡ m
+all-pass-eq test tested [] [] t = refl
+all-pass-eq test tested [] (b ∷ m) t = absurd t
+all-pass-eq test tested (a ∷ l) [] t = absurd t
+all-pass-eq test tested (a ∷ l) (b ∷ m) t =
+    let e = tested a b (both-left (test a b) (allPass test l m) t) in
+    let es = all-pass-eq test tested l m (both-right (test a b) (allPass test l m) t) in
     λ i. e i ∷ es i
 
-abbrev isEmpty : List Row → Bool
-isEmpty [] = true
-isEmpty (rs ∷ q) = false
+abbrev pub sameRows : List Row → List Row → Bool
+sameRows = allPass (allPass alike)
 
-empty-eq : (q : List Row) → T (isEmpty q) → q ≡ []
-empty-eq [] t = refl
-empty-eq (rs ∷ q) t = absurd t
+same-rows-eq : (q p : List Row) → T (sameRows q p) → q ≡ p
+same-rows-eq = all-pass-eq (allPass alike) (all-pass-eq alike alike-eq)
 
--- the rows are rs alone
-abbrev pub alone : Row → List Row → Bool
-alone rs [] = false
-alone rs (qs ∷ []) = allAlike rs qs
-alone rs (qs ∷ (ps ∷ q)) = false
+-- each of the n bytes from lo on asks for one of the rows q
+rests-on : (q : List Row) (n lo : ℕ) → T (upto (λ (b : ℕ). sameRows q (rests rows b)) n lo)
+    → (s : Bytes) → 0 < length s → lo ≤ getD s 0 0 → getD s 0 0 < lo + n → widthBehind q (drop 1 s) ≡ character s
+rests-on q n lo t s h low high =
+    let b = getD s 0 0 in
+    let e = same-rows-eq q (rests rows b) (on-range (λ (x : ℕ). sameRows q (rests rows x)) n lo t b low high) in
+    sym (ap character (drop-cons s 0 0 h) ∙ by-first b (drop 1 s) ∙ ap (λ (p : List Row). widthBehind p (drop 1 s)) (sym e))
 
-alone-eq : (rs : Row) (q : List Row) → T (alone rs q) → q ≡ rs ∷ []
-alone-eq rs [] t = absurd t
-alone-eq rs (qs ∷ []) t = let e = all-alike-eq rs qs t in λ i. sym e i ∷ []
-alone-eq rs (qs ∷ (ps ∷ q)) t = absurd t
-
-abbrev pub secondThenTails : ℕ → Range → Row
-secondThenTails n r = r ∷ replicate (n - 2) tail
+-- ---- so a character by its first byte
 
 -- each of the k bytes from lo on begins a row of n bytes, r the range of the second
-pub row-on : (n : ℕ) (r : Range) (k lo : ℕ) → T (upto (λ (b : ℕ). alone (secondThenTails n r) (rests rows b)) k lo)
+pub row-on : (n : ℕ) (r : Range) (k lo : ℕ) → T (upto (λ (b : ℕ). sameRows (secondThenTails n r ∷ []) (rests rows b)) k lo)
     → (s : Bytes) → 2 ≤ n → 0 < length s → lo ≤ getD s 0 0 → getD s 0 0 < lo + k → rowWidth n r s ≡ character s
 unfolding rowWidth widthBehind
 row-on n r k lo t s two h low high =
-    let b = getD s 0 0 in
-    let e = alone-eq (secondThenTails n r) (rests rows b) (on-range (λ (x : ℕ). alone (secondThenTails n r) (rests rows x)) k lo t b low high) in
     let w : suc (length (secondThenTails n r)) ≡ n = omega (arith, length-replicate (n - 2) tail) in
-    sym (ap character (drop-cons s 0 0 h) ∙ by-first b (drop 1 s) ∙ rw (e, w))
+    ap (λ (m : ℕ). cond (fits (secondThenTails n r) (drop 1 s)) m 0) (sym w) ∙ rests-on (secondThenTails n r ∷ []) k lo t s h low high
 
--- no row begins with a byte from 80 to C1, or from F5 on
-pub row-none : (s : Bytes) → 0 < length s → 0x80 ≤ getD s 0 0 → (0xC2 ≤ getD s 0 0 → 0xF5 ≤ getD s 0 0) → 0 ≡ character s
-unfolding widthBehind rests
-row-none s h low high =
-    let b = getD s 0 0 in
-    sym (ap character (drop-cons s 0 0 h) ∙ by-first b (drop 1 s) ∙ ap (λ (q : List Row). widthBehind q (drop 1 s)) (go (decLt b 0xC2)))
-  where
-    go : Dec (getD s 0 0 < 0xC2) → rests rows (getD s 0 0) ≡ []
-    go (yes l) = empty-eq (rests rows (getD s 0 0)) (on-range (λ (x : ℕ). isEmpty (rests rows x)) 66 0x80 tt (getD s 0 0) low (omega arith))
-    go (no l) = none-from 0xF5 (getD s 0 0) rows tt (high (omega arith))
+-- none of them begins a row
+pub row-none : (k lo : ℕ) → T (upto (λ (b : ℕ). sameRows [] (rests rows b)) k lo) → (s : Bytes) → 0 < length s → lo ≤ getD s 0 0 → getD s 0 0 < lo + k → 0 ≡ character s
+unfolding widthBehind
+row-none = rests-on []
 
 pub row-ascii : (s : Bytes) → 0 < length s → getD s 0 0 < 128 → 1 ≡ character s
-row-ascii s h l = sym (ap character (drop-cons s 0 0 h) ∙ plain-character (getD s 0 0) (drop 1 s) l)
+unfolding widthBehind rests fits
+row-ascii s h l = rests-on ([] ∷ []) 128 0 tt s h (omega arith) (omega arith)
 
 pub row-end : (s : Bytes) → length s ≡ 0 → 0 ≡ character s
 unfolding character widthIn fits

@@ -5,7 +5,7 @@ use mathlib.Core.Bool.{Bool, true, cond, _&&_}
 use lib.Dec.{ltb, leb}
 use lib.ListN.{length, take, drop, replicate}
 use Rattle.octets.specs.Bytes.{Bytes}
-use Rattle.definition.specs.Utf8.{Range, inside, tail, fits}
+use Rattle.definition.specs.Utf8.{Range, Row, inside, tail, fits}
 
 -- all bytes are below 128: ASCII
 unfoldable pub plain : Bytes → Bool
@@ -21,6 +21,10 @@ unfoldable pub allInside : Range → Bytes → Bool
 allInside r [] = true
 allInside r (b ∷ s) = inside r b && allInside r s
 
--- n where behind the first byte of s stand one in the range r and then tails, n bytes in all; else 0
+-- a row of n bytes behind its first one
+abbrev pub secondThenTails : ℕ → Range → Row
+secondThenTails n r = r ∷ replicate (n - 2) tail
+
+-- n where such bytes stand behind the first of s, else 0
 unfoldable pub rowWidth : ℕ → Range → Bytes → ℕ
-rowWidth n r s = cond (fits (r ∷ replicate (n - 2) tail) (drop 1 s)) n 0
+rowWidth n r s = cond (fits (secondThenTails n r) (drop 1 s)) n 0

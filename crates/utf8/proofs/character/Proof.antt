@@ -46,10 +46,14 @@ unfolding rests
 returns-10 c = c .row8 .ensures ∙ row-on _ _ 3 0xF1 tt _ (omega arith) (omega arith) (omega arith) (omega arith)
 
 returns-11 : tie.Need-returns-11
-returns-11 c = row-none _ (omega arith) (omega arith) (λ h. omega arith)
+unfolding rests
+returns-11 c = row-none 66 0x80 tt _ (omega arith) (omega arith) (omega arith)
 
 returns-12 : tie.Need-returns-12
-returns-12 c = row-none _ (omega arith) (omega arith) (λ h. omega arith)
+unfolding rests
+returns-12 c =
+    let k = c .before .before .before .before .before .before .before .shared-slice-known2 .given 0 in
+    row-none 11 0xF5 tt _ (omega arith) (omega arith) (omega (arith, k))
 
 pub character-spec : {M : Type 1} → statement M
 character-spec =

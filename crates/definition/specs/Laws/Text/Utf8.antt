@@ -65,12 +65,12 @@ lone (rs ∷ []) = allTails rs
 lone (rs ∷ (rs′ ∷ q)) = false
 
 -- no row begins with a byte from h on
-abbrev pub endBefore : ℕ → List Row → Bool
+abbrev endBefore : ℕ → List Row → Bool
 endBefore h [] = true
 endBefore h ([] ∷ q) = true
 endBefore h ((r ∷ rs) ∷ q) = ltb (r .hi) h && endBefore h q
 
-pub none-from : (h b : ℕ) (q : List Row) → T (endBefore h q) → h ≤ b → rests q b ≡ []
+none-from : (h b : ℕ) (q : List Row) → T (endBefore h q) → h ≤ b → rests q b ≡ []
 unfolding rests
 none-from h b [] t l = refl
 none-from h b ([] ∷ q) t l = refl
