@@ -5,7 +5,7 @@ use mathlib.Core.Bool.{Bool, true, cond, _&&_}
 use lib.Dec.{ltb, leb}
 use lib.ListN.{length, take, drop, replicate}
 use Rattle.octets.specs.Bytes.{Bytes}
-use Rattle.definition.specs.Utf8.{Range, Row, inside, tail, fits}
+use Rattle.definition.specs.Utf8.{Range, Row, inside, tail, fits, character}
 
 -- all bytes are below 128: ASCII
 unfoldable pub plain : Bytes → Bool
@@ -28,3 +28,7 @@ secondThenTails n r = r ∷ replicate (n - 2) tail
 -- n where such bytes stand behind the first of s, else 0
 unfoldable pub rowWidth : ℕ → Range → Bytes → ℕ
 rowWidth n r s = cond (fits (secondThenTails n r) (drop 1 s)) n 0
+
+-- how many bytes at the front of s are whole characters: eight of ASCII, else those of the first character, 0 where it begins with none
+unfoldable pub ahead : Bytes → ℕ
+ahead s = cond (startsPlain s) 8 (character s)

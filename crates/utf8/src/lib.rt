@@ -7,7 +7,7 @@
 ghost use mathlib.Core.Path.{_≡_};
 ghost use Prim.Native.Nat.{_≤_};
 ghost use Rattle.definition.specs.Utf8.{_–_, tail, character as theCharacter, utf8};
-ghost use Rattle.utf8.specs.Meaning.{plain, allInside, startsPlain, rowWidth};
+ghost use Rattle.utf8.specs.Meaning.{plain, startsPlain, allInside, rowWidth, ahead as theAhead};
 
 // Whether all bytes of s are tails.
 fn are_tails(s: &[u8]) -> bool
@@ -100,17 +100,24 @@ fn starts_plain(s: &[u8]) -> bool
     is_ascii(&s[..8])
 }
 
+// How many bytes at the front of s are whole characters: eight where these are ASCII, else those of the first
+// character; 0 where s begins with none.
+fn ahead(s: &[u8]) -> usize
+    ensures { λ r. ⌜ r ≡ theAhead (now (s .entry)) ⌝ }
+{
+    if starts_plain(s) {
+        return 8;
+    }
+    character(s)
+}
+
 // Whether s is a run of characters: UTF8-octets = *( UTF8-char )
 fn is_run(s: &[u8]) -> bool
     ensures { λ r. ⌜ r ≡ utf8 (now (s .entry)) ⌝ }
 {
     let mut i = 0;
     while i < s.len() {
-        if starts_plain(&s[i..]) {
-            i += 8;
-            continue;
-        }
-        let n = character(&s[i..]);
+        let n = ahead(&s[i..]);
         if n == 0 {
             return false;
         }

@@ -1,11 +1,11 @@
 -- At each place the bytes left are a run where s is one.
-use mathlib.Core.Path.{_≡_, _∙_, sym, refl}
+use mathlib.Core.Path.{_≡_, _∙_, refl}
 use Prim.Native.Nat.{_≤_, _-_}
 use native.Mathlib.Omega.{arith}
 use borrow.Author.Needs.{needs}
 use lib.ListN.{length, drop}
 use Rattle.definition.specs.Utf8.{utf8}
-use Rattle.utf8.proofs.Runs.{goes-plain, goes-character, goes-nowhere, goes-end}
+use Rattle.utf8.proofs.Runs.{goes-on, goes-nowhere, goes-end}
 use Rattle.utf8.proofs.is_run.Statement.{statement}
 use Rattle.utf8.proofs.is_run.Tie as tie
 
@@ -18,41 +18,25 @@ abbrev μ-loop : tie.MeasureT-loop
 loop-holds : tie.Need-loop-holds Inv-loop μ-loop
 loop-holds c = (omega arith, refl)
 
+returns : tie.Need-returns Inv-loop μ-loop
+returns c =
+    let l = c .before .before .before .before in
+    goes-nowhere _ (l .loop .i) _ (search needs) (c .before .ahead .ensures) (c .if1 .taken) ∙ l .loop .inv .1
+
 add-i : tie.Need-add-i Inv-loop μ-loop
 add-i c =
     let l = c .before .before .before .before in
-    omega (arith, goes-plain (l .before .before .args .s .now) (l .loop .i) (l .loop .inv .0) (sym (c .if1 .taken) ∙ c .before .starts-plain .ensures) .0)
+    omega (arith, goes-on (l .before .before .args .s .now) (l .loop .i) _ (l .loop .inv .0) (c .before .ahead .ensures) (c .if1 .left) .0)
 
 loop-less : tie.Need-loop-less Inv-loop μ-loop
 loop-less c =
     let l = c .before .before .before .before in
-    omega (arith, goes-plain (l .before .before .args .s .now) (l .loop .i) (l .loop .inv .0) (sym (c .if1 .taken) ∙ c .before .starts-plain .ensures) .0)
+    omega (arith, goes-on (l .before .before .args .s .now) (l .loop .i) _ (l .loop .inv .0) (c .before .ahead .ensures) (c .if1 .left) .0)
 
 loop-again : tie.Need-loop-again Inv-loop μ-loop
 loop-again c =
     let l = c .before .before .before .before in
-    let g = goes-plain _ (l .loop .i) (l .loop .inv .0) (sym (c .if1 .taken) ∙ c .before .starts-plain .ensures) in
-    (g .0, g .1 ∙ l .loop .inv .1)
-
-returns : tie.Need-returns Inv-loop μ-loop
-returns c =
-    let l = c .before .before .before .before .before .before .before in
-    goes-nowhere _ (l .loop .i) _ (search needs) (c .before .character .ensures) (c .if2 .taken) ∙ l .loop .inv .1
-
-add-i-2 : tie.Need-add-i-2 Inv-loop μ-loop
-add-i-2 c =
-    let l = c .before .before .before .before .before .before .before in
-    omega (arith, goes-character (l .before .before .args .s .now) (l .loop .i) _ (l .loop .inv .0) (c .before .character .ensures) (c .if2 .left) .0)
-
-loop-less-2 : tie.Need-loop-less-2 Inv-loop μ-loop
-loop-less-2 c =
-    let l = c .before .before .before .before .before .before .before in
-    omega (arith, goes-character (l .before .before .args .s .now) (l .loop .i) _ (l .loop .inv .0) (c .before .character .ensures) (c .if2 .left) .0)
-
-loop-again-2 : tie.Need-loop-again-2 Inv-loop μ-loop
-loop-again-2 c =
-    let l = c .before .before .before .before .before .before .before in
-    let g = goes-character _ (l .loop .i) _ (l .loop .inv .0) (c .before .character .ensures) (c .if2 .left) in
+    let g = goes-on _ (l .loop .i) _ (l .loop .inv .0) (c .before .ahead .ensures) (c .if1 .left) in
     (g .0, g .1 ∙ l .loop .inv .1)
 
 returns-2 : tie.Need-returns-2 Inv-loop μ-loop
@@ -71,15 +55,8 @@ is-run-spec =
     (λ c. search needs)
     (λ c. search needs)
     (λ c κs. search needs)
+    returns
     add-i
     loop-less
     loop-again
-    (λ c. search needs)
-    (λ c. search needs)
-    (λ c. search needs)
-    (λ c κs. search needs)
-    returns
-    add-i-2
-    loop-less-2
-    loop-again-2
     returns-2)
