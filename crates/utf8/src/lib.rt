@@ -2,8 +2,8 @@
 //
 // `character` is that section's syntax: a case for each of its rows, in its order, by the first byte and the range of
 // the second. A string is well formed if it is a run of characters (`utf8` in definition, specs/Utf8.antt). Most
-// strings are ASCII, and the others for the most part: a string of ASCII is seen at once, and between other letters
-// ASCII is passed eight bytes at a time.
+// strings are ASCII, and the others for the most part: a string of ASCII is seen at once by `is_utf8`, and between other
+// letters ASCII is passed eight bytes at a time.
 ghost use mathlib.Core.Path.{_≡_};
 ghost use Prim.Native.Nat.{_≤_};
 ghost use Rattle.definition.specs.Utf8.{_–_, tail, character as theCharacter, utf8};
@@ -111,8 +111,8 @@ fn ahead(s: &[u8]) -> usize
     character(s)
 }
 
-// Whether s is a run of characters: UTF8-octets = *( UTF8-char )
-fn is_run(s: &[u8]) -> bool
+// Whether s is UTF-8: a run of characters, UTF8-octets = *( UTF8-char ).
+pub fn is_run(s: &[u8]) -> bool
     ensures { λ r. ⌜ r ≡ utf8 (now (s .entry)) ⌝ }
 {
     let mut i = 0;
@@ -126,7 +126,7 @@ fn is_run(s: &[u8]) -> bool
     true
 }
 
-// Whether s is UTF-8.
+// Whether s is UTF-8, quicker than `is_run` where s may well be ASCII.
 pub fn is_utf8(s: &[u8]) -> bool
     ensures { λ r. ⌜ r ≡ utf8 (now (s .entry)) ⌝ }
 {
