@@ -1,0 +1,34 @@
+#!/usr/bin/env python3
+"""The compiled library: the quick test of a string is part of the check of a record, and what decides where it fails is called.
+
+LLVM inlines by size, and nothing in Rattle tells it what to inline; docs/DECISIONS.md, 4.16, says what hangs on it.
+"""
+import re
+import sys
+
+from checklist import Skip, run
+from header import LIBRARY
+
+ENTRY = "alarm_step"
+QUICK = {"record_check::string_at", "record_check::option_at", "record_check::is_plain_at", "record_check::ruler::is_plain"}
+
+
+def functions(root):
+    """The names of the functions that stand by themselves in the library: each has a section of its own."""
+    if not (root / LIBRARY).exists():
+        raise Skip(f"{LIBRARY} is not built; `make lib` builds it")
+    return {name.decode() for name in re.findall(rb"\.text\.([^\0]+)\0", (root / LIBRARY).read_bytes())}
+
+
+def quick(root):
+    """The functions of the quick test stand in their callers. The entry point is seen, so that theirs would be."""
+    found = functions(root)
+    if ENTRY not in found:
+        yield f"{LIBRARY} has no {ENTRY}: its functions are not seen"
+    yield from (f"{name} is called, and not inlined" for name in sorted(found & QUICK))
+
+
+CHECKS = {"the quick test of strings is inlined": quick}
+
+if __name__ == "__main__":
+    sys.exit(run("inlined", CHECKS))
