@@ -3,7 +3,7 @@
 
    Five registers of each size: all records free; full of typical alarms whose strings have the same lengths in all records (alike); full
    of alarms whose strings vary by a quarter around these lengths (varied), which a processor predicts less well; those again with two
-   letters in each text that are not ASCII (accented); and with no other letters in the text (cyrillic). Printed are nanoseconds per record
+   letters in each text that are not ASCII (accented); and with texts of such letters alone (cyrillic). Printed are nanoseconds per record
    (the least and the median of many runs) and bytes per second (of the least), and beside them those of a bare read of the same bytes.
 
    Each is measured twice: in memory of ordinary pages, and of large ones, for which a program asks Linux by madvise. A register of 154 MB

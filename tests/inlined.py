@@ -9,8 +9,9 @@ import sys
 from checklist import Skip, run
 from header import LIBRARY
 
-ENTRY = "alarm_step"
-QUICK = {"record_check::string_at", "record_check::option_at", "record_check::is_plain_at", "record_check::ruler::is_plain"}
+QUICK = {"record_check::string_at", "record_check::option_at", "record_check::is_plain_at", "record_check::ruler::is_plain",
+         "record_check::ruler::is_clear"}
+OTHERWISE = "record_check::any_string_at"
 
 
 def functions(root):
@@ -21,10 +22,10 @@ def functions(root):
 
 
 def quick(root):
-    """The functions of the quick test stand in their callers. The entry point is seen, so that theirs would be."""
+    """The functions of the quick test stand in their callers. What decides where it fails stands by itself, so that theirs would be seen."""
     found = functions(root)
-    if ENTRY not in found:
-        yield f"{LIBRARY} has no {ENTRY}: its functions are not seen"
+    if OTHERWISE not in found:
+        yield f"{OTHERWISE} is inlined, or {LIBRARY} does not show its functions"
     yield from (f"{name} is called, and not inlined" for name in sorted(found & QUICK))
 
 

@@ -42,10 +42,10 @@ def shown(marked):
     return "".join(f" {run[0]:02x}-{run[-1]:02x}" for run in runs)
 
 
-def pairs(tail):
-    """The lines of a tail: first bytes side by side that have the same second bytes are one."""
-    found = [shown(accepted(bytes([first, second]) + tail) for second in range(256)) for first in range(256)]
-    yield "\ntail" + "".join(f" {b:02x}" for b in tail)
+def pairs(ending):
+    """The lines of an ending: first bytes side by side that have the same second bytes are one."""
+    found = [shown(accepted(bytes([first, second]) + ending) for second in range(256)) for first in range(256)]
+    yield "\nending" + "".join(f" {b:02x}" for b in ending)
     for ranges, run in itertools.groupby(range(256), found.__getitem__):
         firsts = list(run)
         yield f"{firsts[0]:02x}-{firsts[-1]:02x}:{ranges}"
@@ -99,7 +99,8 @@ def ascii_between():
 # ---- the files
 
 def text(number, s):
-    """A string in ASCII that is not the same for all numbers. Next before it are bytes below 40: an or of these with a tail is below C0."""
+    """A string in ASCII that is not the same for all numbers. Next before it are bytes below 0x40: joined to a
+    tail by or, they do not hide that it is one."""
     return ascii_bytes(BEFORE - 10, number) + ascii_bytes(10, number, b"\x00\x01 ?") + s + ascii_bytes(BEHIND, number)
 
 
@@ -112,11 +113,11 @@ def line(whole):
 
 
 def main():
-    tails = [bytes(tail) for n in range(3) for tail in itertools.product(edges(*TAIL), repeat=n)]
+    endings = [bytes(ending) for n in range(3) for ending in itertools.product(edges(*TAIL), repeat=n)]
     strings = dict.fromkeys([*at_edges(), *side_by_side(), *in_long_ascii(), *ascii_between()])
     texts = [text(number, s) for number, s in enumerate(strings)]
     lines = [f"empty {int(accepted(b''))}", "single bytes" + shown(accepted(bytes([b])) for b in range(256))]
-    lines += [*itertools.chain.from_iterable(map(pairs, tails)), "\ntexts", *map(line, texts)]
+    lines += [*itertools.chain.from_iterable(map(pairs, endings)), "\ntexts", *map(line, texts)]
     (CRATE / "stdin").write_bytes(b"".join(len(whole).to_bytes(2, "big") + whole for whole in texts))
     (CRATE / "stdout").write_text("".join(f"{row}\n" for row in lines))
 

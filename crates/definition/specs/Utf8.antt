@@ -66,7 +66,8 @@ abbrev pub oneMore : Option ℕ → Option ℕ
 oneMore none = none
 oneMore (some n) = some (suc n)
 
--- UTF8-octets = *( UTF8-char ): how many rows s is a run of, none where it is no run; its first n bytes are of a row that is counted
+-- UTF8-octets = *( UTF8-char ): how many rows s is a run of behind its first n bytes, none where it is no run. These are of a row that is counted
+-- already, and are all there, as in every row that fits
 unfoldable pub rowsFrom : ℕ → Bytes → Option ℕ
 rowsFrom n [] = some 0
 rowsFrom (suc n) (b ∷ s) = rowsFrom n s

@@ -67,11 +67,11 @@ row-tails n r s t h l low high e =
 
 -- ---- what may follow a first byte, by a test that is computed for each byte of a range
 
-abbrev pub alike : Range → Range → Bool
-alike r q = eqb (r .lo) (q .lo) && eqb (r .hi) (q .hi)
+abbrev pub sameRange : Range → Range → Bool
+sameRange r q = eqb (r .lo) (q .lo) && eqb (r .hi) (q .hi)
 
-alike-eq : (r q : Range) → T (alike r q) → r ≡ q
-alike-eq r q t =
+same-range-eq : (r q : Range) → T (sameRange r q) → r ≡ q
+same-range-eq r q t =
     let l = eqb→eq (r .lo) (q .lo) (both-left (eqb (r .lo) (q .lo)) (eqb (r .hi) (q .hi)) t) in
     let h = eqb→eq (r .hi) (q .hi) (both-right (eqb (r .lo) (q .lo)) (eqb (r .hi) (q .hi)) t) in
     λ i. record { lo = l i; hi = h i }
@@ -93,10 +93,10 @@ all-pass-eq test tested (a ∷ l) (b ∷ m) t =
     λ i. e i ∷ es i
 
 abbrev pub sameRows : List Row → List Row → Bool
-sameRows = allPass (allPass alike)
+sameRows = allPass (allPass sameRange)
 
 same-rows-eq : (q p : List Row) → T (sameRows q p) → q ≡ p
-same-rows-eq = all-pass-eq (allPass alike) (all-pass-eq alike alike-eq)
+same-rows-eq = all-pass-eq (allPass sameRange) (all-pass-eq sameRange same-range-eq)
 
 -- each of the n bytes from lo on asks for one of the rows q
 rests-on : (q : List Row) (n lo : ℕ) → T (upto (λ (b : ℕ). sameRows q (rests rows b)) n lo)

@@ -1,4 +1,4 @@
--- What the contracts say: strings of ASCII, strings of tails, and a row behind its first byte.
+-- What the contracts say: strings of ASCII and of tails, a row behind its first byte, and how far a run goes on at once.
 use Prim.Native.Nat.{ℕ, _-_}
 use mathlib.Core.List.{[], _∷_}
 use mathlib.Core.Bool.{Bool, true, cond, _&&_}

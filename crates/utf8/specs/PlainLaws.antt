@@ -12,7 +12,7 @@ use Rattle.definition.specs.Utf8.{fits, widthIn, character, rowsFrom, utf8}
 use Rattle.definition.specs.Laws.Text.Utf8.{utf8-next}
 use Rattle.utf8.specs.Meaning.{plain}
 
-pub plain-character : (b : ℕ) (s : Bytes) → b < 128 → character (b ∷ s) ≡ 1
+plain-character : (b : ℕ) (s : Bytes) → b < 128 → character (b ∷ s) ≡ 1
 unfolding character widthIn fits
 plain-character b s h = rw (leb·zero b, le-leb b 127 (omega arith))
 

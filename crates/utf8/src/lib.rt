@@ -2,8 +2,8 @@
 //
 // `character` is that section's syntax: a case for each of its rows, in its order, by the first byte and the range of
 // the second. A string is well formed if it is a run of characters (`utf8` in definition, specs/Utf8.antt). Most
-// strings are ASCII, and the others for the most part: a string of ASCII is seen at once by `is_utf8`, and between other
-// letters ASCII is passed eight bytes at a time.
+// strings are ASCII, and so are most bytes of the others: a string of ASCII is seen at once by `is_utf8`, and between
+// other letters ASCII is passed eight bytes at a time.
 ghost use mathlib.Core.Path.{_≡_};
 ghost use Prim.Native.Nat.{_≤_};
 ghost use Rattle.definition.specs.Utf8.{_–_, tail, character as theCharacter, utf8};
@@ -73,6 +73,7 @@ fn character(s: &[u8]) -> usize
         0xF0 => row(s, 4, 0x90, 0xBF),
         0xF1..=0xF3 => row(s, 4, 0x80, 0xBF),
         0xF4 => row(s, 4, 0x80, 0x8F),
+        // 80-C1 and F5-FF begin no row
         _ => 0,
     }
 }

@@ -3,7 +3,7 @@
 //
 // The proof says that the code is the definition; this program holds both to the world outside, and shows the rows of RFC 3629,
 // section 4, as the code has them: for the empty string, the single bytes, and all pairs of a first and a second byte with each of 21
-// tails. Then it tries the strings of `stdin`, which lie at the rows' edges, at many places in ASCII.
+// endings. Then it tries the strings of `stdin`, which lie at the rows' edges, at many places in ASCII.
 ghost use mathlib.Core.Path.{_≡_};
 ghost use Prim.Native.Nat.{_+_, _≤_, _<_};
 ghost use lib.ListN.{length};
@@ -28,11 +28,11 @@ fn show_byte(b: usize) {
     io::print_hex(STDOUT_FILENO, b as u64, 2);
 }
 
-// 1 for a string that is accepted.
+// 1 for a string that is accepted, with and without a look for ASCII first.
 fn mark(s: &[u8]) -> u8
     ensures { λ r. ⌜ r ≤ 1 ⌝ }
 {
-    if utf8::is_utf8(s) {
+    if utf8::is_utf8(s) & utf8::is_run(s) {
         return 1;
     }
     0
@@ -88,7 +88,7 @@ fn show_singles() {
 
 // ---- pairs
 
-// The second bytes with which a first byte and a tail x, y are accepted, cut to n bytes in all.
+// The second bytes with which a first byte and an ending x, y are accepted, cut to n bytes in all.
 fn seconds(first: u8, x: u8, y: u8, n: usize) -> [u8; 257]
     requires { ⌜ (2 ≤ n) × (n ≤ 4) ⌝ }
 {
@@ -108,7 +108,7 @@ fn show_row(from: usize, to: usize, marks: &[u8; 257]) {
     show_ranges(marks);
 }
 
-// The rows of a tail. First bytes side by side that have the same second bytes are one row, so that all 65,536 verdicts are in few lines.
+// The rows of an ending. First bytes side by side that have the same second bytes are one row, so that all 65,536 verdicts are in few lines.
 fn show_rows(x: u8, y: u8, n: usize)
     requires { ⌜ (2 ≤ n) × (n ≤ 4) ⌝ }
 {
@@ -127,8 +127,8 @@ fn show_rows(x: u8, y: u8, n: usize)
     show_row(from, 255, &row);
 }
 
-// The least and the greatest byte of a tail, and their neighbours outside.
-fn tail(k: usize) -> u8 {
+// The least and the greatest tail, and their neighbours outside: what endings are made of.
+fn edge(k: usize) -> u8 {
     match k {
         0 => 0x7F,
         1 => 0x80,
@@ -137,20 +137,20 @@ fn tail(k: usize) -> u8 {
     }
 }
 
-fn no_tail() {
-    say(b"\ntail\n");
+fn no_ending() {
+    say(b"\nending\n");
     show_rows(0, 0, 2);
 }
 
-fn one_tail(x: u8) {
-    say(b"\ntail ");
+fn one_byte(x: u8) {
+    say(b"\nending ");
     show_byte(x as usize);
     end_line();
     show_rows(x, 0, 3);
 }
 
-fn two_tails(x: u8, y: u8) {
-    say(b"\ntail ");
+fn two_bytes(x: u8, y: u8) {
+    say(b"\nending ");
     show_byte(x as usize);
     say(b" ");
     show_byte(y as usize);
@@ -158,18 +158,18 @@ fn two_tails(x: u8, y: u8) {
     show_rows(x, y, 4);
 }
 
-fn each_tail() {
+fn each_byte() {
     let mut k = 0;
     while k < 4 {
-        one_tail(tail(k));
+        one_byte(edge(k));
         k += 1;
     }
 }
 
-fn each_two_tails() {
+fn each_two_bytes() {
     let mut k = 0;
     while k < 16 {
-        two_tails(tail(k / 4), tail(k % 4));
+        two_bytes(edge(k / 4), edge(k % 4));
         k += 1;
     }
 }
@@ -250,8 +250,8 @@ fn main() {
     io::print_decimal(STDOUT_FILENO, wide(mark(b"")));
     end_line();
     show_singles();
-    no_tail();
-    each_tail();
-    each_two_tails();
+    no_ending();
+    each_byte();
+    each_two_bytes();
     texts();
 }

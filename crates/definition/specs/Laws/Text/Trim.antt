@@ -8,10 +8,10 @@ use lib.Dec.{T, eqb, leb, leb→le}
 use lib.ListN.{length, getD, take, drop, length-take, length-drop, take-append-drop}
 use lib.Seq.{take-at}
 use Rattle.octets.specs.Bytes.{Bytes, begins}
-use Rattle.octets.specs.BoolLaws.{both, both-left, both-right, holds, true-holds}
+use Rattle.octets.specs.BoolLaws.{both-left, both-right, holds, true-holds}
 use Rattle.octets.specs.RangeLaws.{eq-on}
 use Rattle.definition.specs.Utf8.{Range, Row, inside, fits, widthIn, character, rowsFrom, utf8}
-use Rattle.definition.specs.Laws.Text.Utf8.{by-suffix, allTails, Front, stuck, starts, front, utf8-next, utf8-stuck, utf8-front, utf8-append}
+use Rattle.definition.specs.Laws.Text.Utf8.{by-suffix, inTail, allTails, Front, stuck, starts, front, utf8-next, utf8-stuck, utf8-front, utf8-append}
 use Rattle.definition.specs.White.{white, encoded, frontOf, space, startFrom, endFrom, keep, stay, trim}
 use Rattle.definition.specs.Laws.Text.White.{begins-split, space-front, start-space, start-plain, keepAll, end-space, end-plain}
 
@@ -90,7 +90,7 @@ behind-utf8 b s n z = ap utf8 (sym (behind b s n z)) ∙ behind-space (b ∷ s)
 
 -- ---- and none begins within a character
 
-tail-plain : (r : Range) (b : ℕ) (s : Bytes) → T (leb 0x80 (r .lo) && leb (r .hi) 0xBF) → T (inside r b) → space (b ∷ s) ≡ 0
+tail-plain : (r : Range) (b : ℕ) (s : Bytes) → T (inTail r) → T (inside r b) → space (b ∷ s) ≡ 0
 unfolding space frontOf begins
 tail-plain r b s t i =
     let l = leb→le 0x80 (r .lo) (both-left (leb 0x80 (r .lo)) (leb (r .hi) 0xBF) t) in
@@ -105,17 +105,20 @@ unfolding fits
 end-tails [] s t f = refl
 end-tails (r ∷ rs) [] t f = absurd f
 end-tails (r ∷ rs) (b ∷ s) t f =
-    let z = tail-plain r b s (both-left (leb 0x80 (r .lo) && leb (r .hi) 0xBF) (allTails rs) t) (both-left (inside r b) (fits rs s) f) in
-    let ih = end-tails rs s (both-right (leb 0x80 (r .lo) && leb (r .hi) 0xBF) (allTails rs) t) (both-right (inside r b) (fits rs s) f) in
+    let z = tail-plain r b s (both-left (inTail r) (allTails rs) t) (both-left (inside r b) (fits rs s) f) in
+    let ih = end-tails rs s (both-right (inTail r) (allTails rs) t) (both-right (inside r b) (fits rs s) f) in
     end-plain b s z ∙ ap {B = Bytes} (λ x. b ∷ x) ih
 
 -- ---- so both ends are cut between characters
 
-start-utf8 : (s : Bytes) → utf8 s ≡ true → utf8 (startFrom 0 s) ≡ true
+abbrev Stays : (Bytes → Bytes) → Bytes → Type 0
+Stays f s = utf8 s ≡ true → utf8 (f s) ≡ true
+
+start-utf8 : (s : Bytes) → Stays (startFrom 0) s
 unfolding startFrom
-start-utf8 = by-suffix (λ s. utf8 s ≡ true → utf8 (startFrom 0 s) ≡ true) (λ e. e) (λ b s ih e. go b s ih e (space (b ∷ s)) refl)
+start-utf8 = by-suffix (Stays (startFrom 0)) (λ e. e) (λ b s ih e. go b s ih e (space (b ∷ s)) refl)
   where
-    go : (b : ℕ) (s : Bytes) → ((n : ℕ) → utf8 (drop n s) ≡ true → utf8 (startFrom 0 (drop n s)) ≡ true) → utf8 (b ∷ s) ≡ true → (n : ℕ) → space (b ∷ s) ≡ n → utf8 (startFrom 0 (b ∷ s)) ≡ true
+    go : (b : ℕ) (s : Bytes) → ((n : ℕ) → Stays (startFrom 0) (drop n s)) → utf8 (b ∷ s) ≡ true → (n : ℕ) → space (b ∷ s) ≡ n → utf8 (startFrom 0 (b ∷ s)) ≡ true
     go b s ih e zero z = ap utf8 (start-plain (b ∷ s) z) ∙ e
     go b s ih e (suc n) z =
         ap utf8 (start-space (b ∷ s) (λ y. omega arith) ∙ ap (startFrom 0) (behind b s n z)) ∙ ih n (behind-utf8 b s n z ∙ e)
@@ -124,12 +127,11 @@ kept : (w x : Bytes) → utf8 w ≡ true → utf8 x ≡ true → utf8 (keepAll w
 kept w [] e f = f
 kept w (a ∷ x) e f = utf8-append w (a ∷ x) e ∙ f
 
-end-utf8 : (s : Bytes) → utf8 s ≡ true → utf8 (endFrom 0 s) ≡ true
+end-utf8 : (s : Bytes) → Stays (endFrom 0) s
 unfolding endFrom
-end-utf8 = by-suffix (λ s. utf8 s ≡ true → utf8 (endFrom 0 s) ≡ true) (λ e. e) (λ b s ih e. go b s ih e (space (b ∷ s)) refl (front b s))
+end-utf8 = by-suffix (Stays (endFrom 0)) (λ e. e) (λ b s ih e. go b s ih e (space (b ∷ s)) refl (front b s))
   where
-    go : (b : ℕ) (s : Bytes) → ((n : ℕ) → utf8 (drop n s) ≡ true → utf8 (endFrom 0 (drop n s)) ≡ true) → utf8 (b ∷ s) ≡ true
-        → (n : ℕ) → space (b ∷ s) ≡ n → Front b s → utf8 (endFrom 0 (b ∷ s)) ≡ true
+    go : (b : ℕ) (s : Bytes) → ((n : ℕ) → Stays (endFrom 0) (drop n s)) → utf8 (b ∷ s) ≡ true → (n : ℕ) → space (b ∷ s) ≡ n → Front b s → utf8 (endFrom 0 (b ∷ s)) ≡ true
     go b s ih e zero z (stuck c) = absurd (true-holds false (sym (utf8-stuck b s c) ∙ e))
     go b s ih e zero z (starts rs t r f c) =
         ap utf8 (end-plain b s z ∙ ap {B = Bytes} (λ x. b ∷ x) (end-tails rs s t f))

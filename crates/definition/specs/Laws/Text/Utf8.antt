@@ -13,7 +13,7 @@ use lib.Seq.{drop-at, length-take-le}
 use Rattle.octets.specs.Bytes.{Bytes}
 use Rattle.octets.specs.BoolLaws.{and-false, holds, true-holds, both-left, both-right}
 use Rattle.octets.specs.RangeLaws.{on-range}
-use Rattle.definition.specs.Utf8.{Row, inside, rows, fits, widthIn, character, oneMore, rowsFrom, isRun, utf8}
+use Rattle.definition.specs.Utf8.{Range, Row, inside, rows, fits, widthIn, character, oneMore, rowsFrom, isRun, utf8}
 
 -- what holds of [], and of a string wherever it holds of all that is left of it behind its first byte, holds of every string
 pub by-suffix : (P : Bytes → Type 0) → P [] → ((b : ℕ) (s : Bytes) → ((n : ℕ) → P (drop n s)) → P (b ∷ s)) → (s : Bytes) → P s
@@ -53,10 +53,13 @@ pub by-first : (b : ℕ) (s : Bytes) → character (b ∷ s) ≡ widthBehind (re
 unfolding character
 by-first b s = by-rests rows b s
 
--- tails, or bytes from a part of their range
+-- tails, or a part of them
+abbrev pub inTail : Range → Bool
+inTail r = leb 0x80 (r .lo) && leb (r .hi) 0xBF
+
 abbrev pub allTails : Row → Bool
 allTails [] = true
-allTails (r ∷ rs) = (leb 0x80 (r .lo) && leb (r .hi) 0xBF) && allTails rs
+allTails (r ∷ rs) = inTail r && allTails rs
 
 -- at most one row, and nothing but tails in it
 abbrev pub lone : List Row → Bool

@@ -1,8 +1,8 @@
--- `each_two_tails` ends after its sixteen turns.
+-- `each_two_bytes` ends after its sixteen turns.
 use Prim.Native.Nat.{_≤_, _-_}
 use borrow.Author.Needs.{needs}
-use Rattle.utf8_vectors.proofs.each_two_tails.Statement.{statement}
-use Rattle.utf8_vectors.proofs.each_two_tails.Tie as tie
+use Rattle.utf8_vectors.proofs.each_two_bytes.Statement.{statement}
+use Rattle.utf8_vectors.proofs.each_two_bytes.Tie as tie
 
 abbrev Inv-loop : tie.InvT-loop
 Inv-loop k₀ k = k ≤ 16
@@ -10,8 +10,8 @@ Inv-loop k₀ k = k ≤ 16
 abbrev μ-loop : tie.MeasureT-loop
 μ-loop k₀ k = 16 - k
 
-pub each-two-tails-spec : {M : Type 1} → statement M
-each-two-tails-spec =
+pub each-two-bytes-spec : {M : Type 1} → statement M
+each-two-bytes-spec =
     tie.close
     (tie.spec
     Inv-loop
