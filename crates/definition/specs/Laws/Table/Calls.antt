@@ -1,5 +1,5 @@
 -- The bytes of the table's calls, field by field as "The call enters" lists them: "operation byte, then fields in order, nothing after".
--- For the rows of Marked, for EachNumber, YearlyBalance and WrongSeverity, and for the twins in TwinRaises.
+-- For the rows of Marked, for EachNumber, YearlyBalance, WrongSeverity and Headline, and for the twins in TwinRaises.
 use Prim.Native.Nat.{ℕ}
 use Prim.Native.String.{String}
 use mathlib.Core.List.{[], _∷_, _++_}
@@ -65,9 +65,15 @@ abbrev pub clear : ℕ → String → Bytes
 clear time object =
     join (byte 2 ∷ be64 time ∷ sent "t" ∷ sent "lease-lost" ∷ tenant object ∷ absent ∷ absent ∷ absent ∷ [])
 
--- ---- "3 acknowledge: time, id, authorised (0 or 1)"
+-- ---- "3 acknowledge, 4 suppress: time, id, authorised (0 or 1)"
+abbrev plainly : ℕ → String → ℕ → Bytes
+plainly op id authorised = join (byte op ∷ be64 0 ∷ sent id ∷ byte authorised ∷ [])
+
 abbrev pub acknowledge : String → ℕ → Bytes
-acknowledge id authorised = join (byte 3 ∷ be64 0 ∷ sent id ∷ byte authorised ∷ [])
+acknowledge id authorised = plainly 3 id authorised
+
+abbrev pub suppress : String → ℕ → Bytes
+suppress id authorised = plainly 4 id authorised
 
 -- ---- "5, 6 the same with policy: time, id, principal, tenant?, reason, scope, correlation?, critical-allowed (0 or 1), authorised (0 or 1),
 -- ---- denial message": principal `p`, no reason, scope 2, "global", critical-allowed 0, denial `no`

@@ -18,7 +18,7 @@ use Rattle.definition.specs.Station.{Station, Step, _>>_, give, forEach,
 use Rattle.definition.specs.Answer.{Answer, Alarms, Counts, Summary, Events, answerBytes}
 use Rattle.definition.specs.Laws.Steps.Answers.{size-blank, blankAnswer, kindOf}
 use Rattle.definition.specs.Steps.{eventStored, eventLost, attempt, eventOf, deny, allow, needsOverride, policyAt, policy}
-use Rattle.definition.specs.Reports.{activeList, historyList, rating, tally, counts, severityOf, worst, worstImpact, summary, freeOne, takeAudit}
+use Rattle.definition.specs.Reports.{activeList, historyList, rating, tally, counts, onHeadline, severityOf, headline, worst, worstImpact, summary, freeOne, takeAudit}
 use Rattle.definition.specs.Perform.{stepFor, inLength, asksRecord, inRoom, perform}
 use Rattle.definition.specs.Numbers.{callRefusals, soundRefusals, among, Among}
 use Rattle.definition.specs.Contracts.LegalFields.{Time, LegalEvent, LegalPolicy, LegalCall}
@@ -141,9 +141,11 @@ listed : (t : Alarm → Bool) → ((a : Alarm) → t (blank a) ≡ t a) → (c c
 listed t b c c′ h = ap Alarms (sym (those-map blank t t b (contents c)) ∙ ap (those t) (blanks-twin c c′ h) ∙ those-map blank t t b (contents c′))
 
 -- what a blind function sees
-seen : {B : Type 0} (f : Alarm → B) → ((l : List Alarm) → map (λ a. f (blank a)) l ≡ map f l) → (c c′ : List (Entry Alarm)) → AtEach TwinAt c c′ →
-    map f (contents c) ≡ map f (contents c′)
-seen f b c c′ h = sym (map-map f blank (contents c) ∙ b (contents c)) ∙ ap (map f) (blanks-twin c c′ h) ∙ map-map f blank (contents c′) ∙ b (contents c′)
+seen : {B : Type 0} (f : List Alarm → B) → ((l : List Alarm) → f (map blank l) ≡ f l) → (c c′ : List (Entry Alarm)) → AtEach TwinAt c c′ → f (contents c) ≡ f (contents c′)
+seen f b c c′ h = sym (b (contents c)) ∙ ap f (blanks-twin c c′ h) ∙ b (contents c′)
+
+headline-blind : (l : List Alarm) → headline (map blank l) ≡ headline l
+headline-blind l = ap (map severityOf) (those-map blank onHeadline onHeadline (λ a. refl) l) ∙ map-map severityOf blank (those onHeadline l)
 
 activeList-twin : {n : ℕ} (v : ℕ) → Related (Twin n) (Told twin 8 n) (activeList v) (activeList v)
 unfolding activeList
@@ -155,12 +157,12 @@ historyList-twin u w = look-related (λ s t p. told twin-lasts (listed (inScope 
 
 counts-twin : {n : ℕ} → Related (Twin n) (Told twin 0 n) counts counts
 unfolding counts
-counts-twin = look-related (λ s t p. told twin-lasts (ap (λ l. Counts (tally l)) (seen rating (λ l. refl) (s .active) (t .active) (p .pairs))) refl (omega arith) s t p)
+counts-twin = look-related (λ s t p. told twin-lasts (seen (λ l. Counts (tally (map rating l))) (λ l. ap (λ r. Counts (tally r)) (map-map rating blank l)) (s .active) (t .active) (p .pairs)) refl (omega arith) s t p)
 
 summary-twin : {n : ℕ} → Related (Twin n) (Told twin 0 n) summary summary
 unfolding summary
 summary-twin = look-related (λ s t p.
-    let v = seen severityOf (λ l. refl) (s .active) (t .active) (p .pairs) in
+    let v = seen headline headline-blind (s .active) (t .active) (p .pairs) in
     let z = length-each TwinAt (s .active) (t .active) (p .pairs) in
     let r = p .rest .counters in
     told twin-lasts (λ i. Summary (record { active = z i; worst = worst (v i); readiness = worstImpact (v i); successes = r .0 i; failures = r .1 i })) refl (omega arith) s t p)
