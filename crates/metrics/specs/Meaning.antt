@@ -1,5 +1,5 @@
--- What the code says of the active chain: its ratings, where they appear first, a table of them, and the entries in the answer.
-use Prim.Native.Nat.{ℕ, zero, suc, _+_, _*_, _≤_, _<_}
+-- What the code says of the active chain: its headline; its ratings, where they appear first, a table of them, and the entries in the answer.
+use Prim.Native.Nat.{ℕ, zero, suc, max, _+_, _*_, _≤_, _<_}
 use mathlib.Core.Path.{_≡_}
 use mathlib.Core.List.{List, [], _∷_, _++_, map}
 use mathlib.Core.Bool.{Bool, true, false, cond}
@@ -9,7 +9,8 @@ use Rattle.octets.specs.Bytes.{Bytes, at32, be32}
 use Rattle.definition.specs.Chain.{those}
 use Rattle.definition.specs.Key.{string}
 use Rattle.definition.specs.Answer.{Count, countEntries}
-use Rattle.definition.specs.Reports.{Rating, rating, sameRating, countOf, firstsFrom, tally}
+use Rattle.definition.specs.Alarm.{Alarm}
+use Rattle.definition.specs.Reports.{onHeadline, Rating, rating, sameRating, countOf, firstsFrom, tally}
 use Rattle.history.specs.Walk.{alarmAt, alarmsOn, Reached}
 
 -- ---- the active chain
@@ -23,7 +24,19 @@ pub record AtPlace (b : Bytes) (k i : ℕ) : Type 0 where
   pub reached : Reached b 0 (at32 b 16) k i
   pub within : k < at32 b 16
 
--- the ratings of the active alarms, in chain order
+-- ---- the headline: 255 stands for no severity
+
+-- the worse of two
+abbrev pub worse : ℕ → ℕ → ℕ
+worse v w = cond (eqb w 255) v (cond (eqb v 255) w (max v w))
+
+-- the severity v of an alarm, and none where it is left aside
+abbrev pub shown : Alarm → ℕ → ℕ
+shown a v = cond (onHeadline a) v 255
+
+-- ---- ratings
+
+-- those of the active alarms, in chain order
 abbrev pub ratings : Bytes → List Rating
 ratings b = map rating (alarmsOn 0 b)
 
