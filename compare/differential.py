@@ -6,11 +6,12 @@ import subprocess
 from typing import NamedTuple, Optional
 
 import imports  # noqa: F401  (finds the reading of calls, and the table of numbers)
+import headline
 import model
 import numbering
 from balance import BY_RUST, Balance, RegisterBalance
 from orders import Counters, Given, Open, Step, results, written
-from original import Original
+from original import Original, active_shown
 from reach import Reach
 from reading import line
 from records import ROOT, alarm_of, alarm_record, put_number, unlinked
@@ -124,7 +125,10 @@ class Rust:
         if not found.startswith("{"):
             return None if found == f"refused {outcome.number}" else f"the Rust: {found}; here: number {outcome.number}"
         said = json.loads(found)
-        self.severities = [alarm["severity"] for alarm in said["state"]["active"]]
+        active = said["state"]["active"]
+        self.severities = [alarm["severity"] for alarm in active]
+        if call[0] == headline.SUMMARY:
+            headline.count(self.tally, active, headline.WITH_RUST)
         self.balance.count(call[0], said["code"], said["number"])
         fault = self.balance.fault(len(self.severities))
         if fault:
@@ -214,6 +218,7 @@ def checked(case, tools, tally):
 # the codes that each operation's answers have
 CODES = {1: (1, 2, 5), 2: (3, 4), 3: (7, 8, 10), 4: (6, 8, 10), 5: (7, 8, 9, 10), 6: (6, 8, 9, 10)} | {op: (11,) for op in range(7, 13)}
 ANSWERS = [f"operation {op} code {code}" for op, codes in CODES.items() for code in codes]
+SUMMARIES = f"operation {headline.SUMMARY} code 11"
 
 
 def refusals(first):
@@ -229,7 +234,7 @@ def result_name(order, outcome):
 
 
 def counted(orders, tools, tally):
-    """The outcomes, each counted by its name."""
+    """The outcomes, each counted by its name; of summaries, their kinds."""
     by_rust = bool(tools.oracle) and for_the_rust(orders)
     for order, outcome in zip(orders, outcomes(orders, tools, tally)):
         if isinstance(order, Step):
@@ -238,6 +243,8 @@ def counted(orders, tools, tally):
         name = result_name(order, outcome)
         if name:
             tally[name] += 1
+        if name == SUMMARIES:
+            headline.count(tally, active_shown(outcome.register))
         yield outcome
 
 

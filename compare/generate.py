@@ -246,6 +246,17 @@ def short_lists():
             yield [opened(limits_), *(Step(data, 1552, 0xA5) for data in calls), *reports]
 
 
+def headlines():
+    """The summary of no alarm; and of every two alarms of four severities, each left as raised, acknowledged or suppressed, the first by plain
+    calls and the second by policy calls, once more when both are raised again as critical."""
+    yield [opened((2, 4, 1)), Step(call(11), 1552, 0xA5)]
+    for severities, ops in itertools.product(itertools.product((0, 3, 4, 5), repeat=2), itertools.product((None, 3, 4), (None, 5, 6))):
+        alarms = [dict(id=name, object=(6, name), severity=severity, critical_allowed=1) for name, severity in zip((b"a", b"b"), severities)]
+        calls = [*(call(1, **alarm) for alarm in alarms), *(call(op, **alarm) for op, alarm in zip(ops, alarms) if op), call(11)]
+        calls += [*(call(1, **alarm | dict(severity=5)) for alarm in alarms), call(11)]
+        yield [opened((2, 4, 1)), *(Step(data, 1552, 0xA5) for data in calls)]
+
+
 def every_call():
     """The calls of tests/calls one after the other on a register that holds a few alarms, each kind of object among them."""
     objects = [(kind, *(b"a", b"b", 1)[:len(parts)]) for kind, parts in OBJECTS.items()]

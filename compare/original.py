@@ -2,10 +2,16 @@
 
 As document 01 has it ("Where the Rust's forms stop"): active lists and counts compare as sets; so does a run of history that
 one call expired, and where the limit cut it, the run compares by count and membership.
+
+The Rust has no summary, and its `readiness_impact()` does not ask whether an active alarm is suppressed. So a summary's worst severity and
+readiness (M-103) are compared with the worst over all of the Rust's active alarms where none of them is suppressed; where some are, with the
+worst over those that are not, by the Rust's own state of each: that these are left aside is then the comparison's reading, not the Rust's.
+The number, which is the active length, and the two counters are the Rust's in every summary.
 """
 import functools
 import itertools
 
+from headline import SUMMARY, headline
 from records import alarm_of, event_of, number, unlinked
 from soundness import Unsound, walked
 
@@ -72,6 +78,21 @@ def answer_shown(op, answer):
     return shown
 
 
+def alarms_shown(data, indices):
+    return [alarm_shown(unlinked(data, index)) for index in indices]
+
+
+def active_shown(register):
+    """The active alarms of a register, as the oracle prints them."""
+    data = bytes(register)
+    return alarms_shown(data, walked(data)[0])
+
+
+def summary_body(state):
+    """Op 11's body by what the Rust holds."""
+    return bytes(headline(state["active"])) + b"".join(state[name].to_bytes(8, "big") for name in ("successes", "failures"))
+
+
 def by_key(alarms):
     return sorted(alarms, key=lambda alarm: (alarm["key"], alarm["id"], alarm["updated_at"]))
 
@@ -97,8 +118,8 @@ class Original:
             data = bytes(register)
             active, history, audit, _ = walked(data)
             self.seen, self.shown = data, {
-                "active": [alarm_shown(unlinked(data, index)) for index in active],
-                "history": [alarm_shown(unlinked(data, index)) for index in history],
+                "active": alarms_shown(data, active),
+                "history": alarms_shown(data, history),
                 "audit": [event_shown(unlinked(data, index)) for index in audit],
                 "successes": number(data, "successes"),
                 "failures": number(data, "failures"),
@@ -115,11 +136,8 @@ class Original:
             ours, held = answer_shown(call[0], answer), self.state_shown(register)
         except Unsound:
             return "the register is not sound"
-        if call[0] == 11:
-            body = bytes([max((a["severity"] for a in state["active"]), default=255), max((a["readiness"] for a in state["active"]), default=0)])
-            body += state["successes"].to_bytes(8, "big") + state["failures"].to_bytes(8, "big")
-            if answer[16:] != body:
-                return f"summary {answer[16:].hex()}, by the Rust {body.hex()}"
+        if call[0] == SUMMARY and answer[16:] != summary_body(state):
+            return f"summary {answer[16:].hex()}, by the Rust {summary_body(state).hex()}"
         if call[0] == 9 and "alarms" in theirs:
             fault = self.histories_differ(ours.pop("alarms"), theirs.pop("alarms"), cut, False)
             if fault:

@@ -5,8 +5,10 @@ compare/recorded.py                  checks the two files; the last line is 'N p
 compare/recorded.py write [FOLDER]   writes them; FOLDER holds the six Rust files, as for compare/oracle/build.sh
 
 A line of stdout is the number, the answer's length, and the SHA-256 of the answer's bytes. The Rust's answers fix all bytes of an answer
-but the order of what a HashMap holds: that is document 01's, the order in which alarms were raised.
+but the order of what a HashMap holds: that is document 01's, the order in which alarms were raised; and but a summary's worst severity and
+readiness where the Rust holds suppressed alarms: these leave them aside (M-103, see original.py).
 """
+import collections
 import hashlib
 import json
 import random
@@ -14,12 +16,13 @@ import sys
 
 import imports  # noqa: F401  (finds the list of checks)
 import generate
+import headline
 import model
 import programs
 from checklist import Skip, run
-from differential import ANSWERS, modelled, ran, refusals, result_name
+from differential import ANSWERS, Tools, counted, modelled, ran, refusals
 from orders import Open, Step, written
-from original import EXPIRED, Original
+from original import EXPIRED, Original, summary_body
 from records import ROOT, WIDTH, alarm_record, event_record
 from standin import read
 
@@ -106,10 +109,8 @@ class Recorder:
             return b"".join(map(event_bytes, said["events"]))
         if "counts" in said:
             return self.counts(said["counts"], state)
-        if op == 11:
-            worst = max((alarm["severity"] for alarm in state["active"]), default=255)
-            readiness = max((alarm["readiness"] for alarm in state["active"]), default=0)
-            return bytes([worst, readiness]) + b"".join(state[name].to_bytes(8, "big") for name in ("successes", "failures"))
+        if op == headline.SUMMARY:
+            return summary_body(state)
         texts = [said[name].encode() for name in ("id", "cause", "message") if name in said]
         return said.get("key", "").encode() + b"".join(map(model.string, texts))
 
@@ -165,11 +166,23 @@ def by_model(_root):
             yield f"order {place}: number {outcome.number} and length {outcome.length}, recorded: {line.strip()}"
 
 
+def tally():
+    """What the lists meet, by the model."""
+    found = collections.Counter()
+    for _ in counted(list(read(STDIN.read_bytes())), Tools(), found):
+        pass
+    return found
+
+
 def every_result(_root):
     """The lists meet every code, and every refusal that a call can meet on a sound register."""
-    orders = list(read(STDIN.read_bytes()))
-    met = {result_name(order, outcome) for order, outcome in zip(orders, modelled(orders))}
-    yield from (f"no order gives {name}" for name in refusals(23) + ANSWERS if name not in met)
+    met = tally()
+    yield from (f"no order gives {name}" for name in refusals(23) + ANSWERS if not met[name])
+
+
+def every_headline(_root):
+    """The lists have summaries of every kind: with suppressed alarms left aside, and with acknowledged alarms on the headline."""
+    yield from headline.unmet(tally(), False)
 
 
 def by_rust(_root):
@@ -181,7 +194,12 @@ def by_rust(_root):
         yield "the files are not those that `write` makes"
 
 
-CHECKS = {"the model gives what is recorded": by_model, "every number and code is recorded": every_result, "the Rust gives what is recorded": by_rust}
+CHECKS = {
+    "the model gives what is recorded": by_model,
+    "every number and code is recorded": every_result,
+    "summaries of every kind are recorded": every_headline,
+    "the Rust gives what is recorded": by_rust,
+}
 
 
 def main():

@@ -1,5 +1,5 @@
 #!/usr/bin/env python3
-"""The model on document 01's worked cases, and on the smallest inputs that tell its readings apart."""
+"""The model on document 01's worked cases, and on the smallest inputs that tell its readings and document 02's apart."""
 import sys
 
 import imports  # noqa: F401  (finds the list of checks)
@@ -193,6 +193,59 @@ def answers(_root):
     yield from unlike("next is zero", station.body[:4], bytes(4))
 
 
+# ---- M-103: suppressed alarms off the headline
+
+RAISE, ACKNOWLEDGE, SUPPRESS, SUMMARY = (1, {}), (3, {}), (4, {}), (11, {})
+CRITICAL, ALLOWED = (1, dict(severity=5)), dict(critical_allowed=1)
+NONE = (255, 0)
+# calls, with worst severity and readiness in the summary after them
+HEADLINES = {
+    "acknowledged": ([RAISE, ACKNOWLEDGE], (3, 0)),
+    "acknowledged, and major": ([(1, dict(severity=4)), ACKNOWLEDGE], (4, 1)),
+    "acknowledged by policy, and critical": ([CRITICAL, (5, {})], (5, 2)),
+    "updated": ([CRITICAL, CRITICAL], (5, 2)),
+    "suppressed, and major": ([(1, dict(severity=4)), SUPPRESS], NONE),
+    "suppressed, and critical": ([CRITICAL, SUPPRESS], NONE),
+    "suppressed, and of severity 0": ([(1, dict(severity=0)), SUPPRESS], NONE),
+    "suppressed by policy": ([RAISE, (6, {})], NONE),
+    "suppressed by policy, and critical": ([CRITICAL, (6, ALLOWED)], NONE),
+    "both suppressed": ([CRITICAL, (1, RB), SUPPRESS, (4, RB)], NONE),
+    "the first of two suppressed": ([RAISE, (1, RB), SUPPRESS], (3, 0)),
+    "the worse of two suppressed": ([CRITICAL, (1, RB | dict(severity=4)), SUPPRESS], (4, 1)),
+    "the lesser of two suppressed": ([CRITICAL, (1, RB | dict(severity=4)), (4, RB)], (5, 2)),
+    "the other of severity 0": ([RAISE, SUPPRESS, (1, RB | dict(severity=0))], (0, 0)),
+    "the other acknowledged": ([CRITICAL, SUPPRESS, (1, RB), (3, RB)], (3, 0)),
+    "suppressed and raised again": ([RAISE, SUPPRESS, CRITICAL], NONE),
+    "raised again and acknowledged": ([RAISE, SUPPRESS, CRITICAL, ACKNOWLEDGE], (5, 2)),
+    "suppressed and acknowledged": ([RAISE, SUPPRESS, ACKNOWLEDGE], (3, 0)),
+    "acknowledged and suppressed": ([RAISE, ACKNOWLEDGE, SUPPRESS], NONE),
+    "suppressed, cleared and raised anew": ([RAISE, SUPPRESS, (2, {}), RAISE], (3, 0)),
+    "suppress not authorised": ([RAISE, (4, dict(authorised=0))], (3, 0)),
+    "suppress by policy not allowed": ([CRITICAL, (6, {})], (5, 2)),
+    "suppress by policy, audit full": ([RAISE, (5, {}), (6, {})], (3, 0)),
+}
+
+
+def headlines(_root):
+    """Worst severity and readiness leave suppressed alarms aside, and no others."""
+    for name, (calls, wanted) in HEADLINES.items():
+        yield from unlike(name, tuple(after(*calls, SUMMARY).body[:2]), wanted)
+
+
+def suppressed_counted(_root):
+    """What still includes suppressed alarms: a summary's number and counters, counts, lists and history."""
+    station = after(RAISE, (1, RB), (6, {}), (6, {}), SUMMARY)
+    yield from unlike("number", station.n, 2)
+    yield from unlike("counters", station.body[2:], bytes(7) + b"\1" + bytes(7) + b"\1")
+    station(4, **RB)
+    yield from unlike("all suppressed", (station(11), station.n, station.body[:2]), (11, 2, bytes(NONE)))
+    yield from unlike("counts", (station(10), station.count, station.body), (11, 1, b"\3\0\0\0\2\0\0\0\x0alease-lost"))
+    for severity, wanted in ((255, 2), (3, 2), (4, 0)):
+        yield from unlike(f"active list {severity}", (station(8, severity_or_all=severity), station.count), (11, wanted))
+    yield from unlike("states on the active chain", [alarm["state"] for alarm in station.alarms("active")], [3, 3])
+    yield from unlike("history", (station(9), station.count, station.history("state")), (11, 3, [0, 3, 3]))
+
+
 def unreached(_root):
     """Sound registers that no list of calls reaches."""
     station = after((1, dict(time=2)), (1, RB))
@@ -279,6 +332,8 @@ CHECKS = {
     "a take with no free record": none_free,
     "history": histories,
     "answers": answers,
+    "headlines": headlines,
+    "suppressed alarms where they count": suppressed_counted,
     "registers that no list reaches": unreached,
     "opening": opening,
     "order of a call's faults": order,
