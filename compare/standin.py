@@ -9,7 +9,9 @@ import sys
 
 import imports  # noqa: F401  (finds the reading of calls)
 from differential import modelled
+from headline import ACKNOWLEDGED, SUMMARY, SUPPRESSED, worst
 from orders import Counters, Given, Open, Step
+from original import active_shown
 
 FAULT = os.environ.get("FAULT", "")
 
@@ -76,6 +78,49 @@ def another_length(order, number, length, answer, register):
 FAULTS = {fault.__name__: fault for fault in (past_the_answer, written_on_refusal, a_register_byte, another_number, another_length)}
 
 
+# ---- wrong summaries (M-103)
+
+def is_summary(order, number):
+    return isinstance(order, Step) and order.call == bytes([SUMMARY]) and number == 0
+
+
+def active(register, *left_aside):
+    """The active alarms but those in these states."""
+    return [alarm for alarm in active_shown(register) if alarm["state"] not in left_aside]
+
+
+def summary_of(*left_aside):
+    """Summaries of which the number, the worst severity and the worst readiness leave aside alarms in these states."""
+    def fault(order, number, length, answer, register):
+        if is_summary(order, number):
+            counted, severe, unready = (active(register, *states) for states in left_aside)
+            answer[8:16] = len(counted).to_bytes(8, "big")
+            answer[16:18] = worst(severe)[0], worst(unready)[1]
+        return number, length
+    return fault
+
+
+def counter_off(at):
+    """A byte of a counter, in summaries that leave a suppressed alarm aside."""
+    def fault(order, number, length, answer, register):
+        if is_summary(order, number) and active(register) != active(register, SUPPRESSED):
+            answer[at] ^= 1
+        return number, length
+    return fault
+
+
+AMENDED = summary_of((), (SUPPRESSED,), (SUPPRESSED,))  # as M-103 has it
+SUMMARIES = {
+    "suppressed alarms counted again": summary_of((), (), ()),
+    "acknowledged alarms left aside": summary_of((), (ACKNOWLEDGED, SUPPRESSED), (ACKNOWLEDGED, SUPPRESSED)),
+    "only the severity amended": summary_of((), (SUPPRESSED,), ()),
+    "only the readiness amended": summary_of((), (), (SUPPRESSED,)),
+    "the active length without the suppressed": summary_of((SUPPRESSED,), (SUPPRESSED,), (SUPPRESSED,)),
+    "successes one off": counter_off(25),
+    "failures one off": counter_off(33),
+}
+
+
 def main():
     out, orders, before = sys.stdout.buffer, list(read(sys.stdin.buffer.read())), b""
     for order, (number, length, answer, register, _) in zip(orders, modelled(orders)):
@@ -85,7 +130,7 @@ def main():
             before = order.register
         after = bytearray(register)
         if FAULT:
-            number, length = FAULTS[FAULT](order, number, length, answer, after)
+            number, length = (FAULTS | SUMMARIES)[FAULT](order, number, length, answer, after)
         shown = answer.rstrip(bytes([order.former])) if isinstance(order, Step) else b""
         changes = [(at, after[at:at + 512]) for at in range(0, len(after), 512) if before[at:at + 512] != after[at:at + 512]]
         out.write(struct.pack(">IQI", number, length, len(shown)) + shown + struct.pack(">I", len(changes)))

@@ -1,6 +1,6 @@
 #!/usr/bin/env python3
 """Whether the comparison notices: the model in the register's place, with and without faults, twins that are none, a balance that fails,
-a severity that reaches too far."""
+a severity that reaches too far, a headline that is not M-103's."""
 import collections
 import os
 import pathlib
@@ -12,6 +12,7 @@ import imports  # noqa: F401  (finds the list of checks)
 import generate
 import standin
 import test_balance
+import test_headline
 import test_reach
 import test_reach_figures
 from calls import call
@@ -37,16 +38,18 @@ def faultless(_root):
         yield f"{tally['calls']} calls"
 
 
-def noticed(fault):
+def noticed(fault, orders=some_list):
     def check(_root):
         os.environ["FAULT"] = fault
-        case, found = Case(some_list()), None
+        case, found = Case(orders()), None
         if not fault_of(case, STANDIN):
             yield "is not noticed"
             return
         case, found = shrunk(case, STANDIN)
         if len(case.orders) > 4:
             yield f"the list is not made small: {len(case.orders)} orders"
+        if found[1] == "the driver ended":
+            yield found[1]
         if found[0] != len(case.orders) - 1 or not report(case, STANDIN).startswith(f"after order {found[0]}: "):
             yield f"the report is about order {found[0]} of {len(case.orders)}"
     return check
@@ -88,10 +91,12 @@ def mask(_root):
 CHECKS = {
     "the model in the register's place": faultless,
     **{f"a fault is noticed: {name.replace('_', ' ')}": noticed(name) for name in standin.FAULTS},
+    **{f"a wrong summary is noticed: {name}": noticed(name, test_headline.some_list) for name in standin.SUMMARIES},
     "programs that end": ended,
     "twins": twins,
     "the mask": mask,
     **test_balance.CHECKS,
+    **test_headline.CHECKS,
     **test_reach.CHECKS,
     **test_reach_figures.CHECKS,
 }
