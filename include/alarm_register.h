@@ -112,8 +112,9 @@ uint32_t alarm_step(uint8_t *reg, size_t reg_len, const uint8_t *call, size_t ca
 #define ALARM_CODE_REPORT                      11u  /* operations 7 to 12, see below */
 /*
  * ALARM_CODE_REPORT, by operation. 7: number is how many expired, no body. 8, 9, 12: count records. 10: count entries of
- * severity byte, u32 alarms, cause string. 11: number is the active length; the body is the worst severity or
- * ALARM_SEVERITY_NONE, the readiness, and the two u64 counters of audit events stored and lost.
+ * severity byte, u32 alarms, cause string. 11: number is the active length, with suppressed alarms; the body is, of the
+ * active alarms that are not suppressed, the worst severity or ALARM_SEVERITY_NONE and the worst readiness, and then the
+ * two u64 counters of audit events stored and lost.
  */
 
 /* Severities. */
@@ -124,7 +125,7 @@ uint32_t alarm_step(uint8_t *reg, size_t reg_len, const uint8_t *call, size_t ca
 #define ALARM_SEVERITY_MAJOR                   4u
 #define ALARM_SEVERITY_CRITICAL                5u
 #define ALARM_SEVERITY_ALL                     255u  /* in an active list: every severity */
-#define ALARM_SEVERITY_NONE                    255u  /* in a summary: no alarm is active */
+#define ALARM_SEVERITY_NONE                    255u  /* in a summary: no active alarm, or all suppressed */
 
 /* Readiness, in a summary. */
 #define ALARM_READINESS_NO_IMPACT              0u

@@ -98,7 +98,7 @@ def list_faults(_root):
         ("text.calls", (HERE / "examples/day.txt").read_bytes(), "make the list with `station write`"),
         ("head.calls", whole[:20], "cut off inside its first 28 bytes"),
         ("call.calls", whole[:100], "cut off inside call 1"),
-        ("mark.calls", whole[:-8], "cut off after call 29: the end mark is missing"),
+        ("mark.calls", whole[:-8], "cut off after call 30: the end mark is missing"),
         ("count.calls", whole[:-1], "cut off inside the end mark"),
         ("more.calls", whole + b"\0", "1 bytes follow the end mark"),
         ("version.calls", whole[:8] + b"\0\0\0\2" + whole[12:], "a list of version 2"),
@@ -133,6 +133,32 @@ def page(_root):
     yield from ends(2, "--csv needs --only", "replay", DAY, "--csv")
     yield from ends(2, "--only takes one of active, history", "replay", DAY, "--only", "everything")
     yield from ends(4, "cannot write", "replay", DAY, "-o", WORK / "nowhere/day.register")
+
+
+def headlines(_root):
+    """Worst and readiness are of the alarms that are not suppressed, and how many are suppressed is shown beside them in every form."""
+    raised = "09:00 raise id={0} type=t severity={1} cause=lease-lost object=tenant({0})".format
+    done = "09:01 {} id={} authorised=yes".format
+    critical, suppressed = raised("a", "critical"), done("suppress", "a")
+    for calls, said in [
+        ([critical], (1, "critical", "not ready", 0)),
+        ([critical, suppressed], (1, "none", "no impact", 1)),
+        ([critical, done("acknowledge", "a")], (1, "critical", "not ready", 0)),
+        ([critical, suppressed, raised("b", "major")], (2, "major", "degraded", 1)),
+        ([critical, suppressed, raised("b", "cleared")], (2, "cleared", "no impact", 1)),
+        ([critical, suppressed, critical], (1, "none", "no impact", 1)),
+        ([critical, suppressed, done("acknowledge", "a")], (1, "critical", "not ready", 0)),
+    ]:
+        text = "\n".join(["limits active=4 history=9 audit=1", "day 14 March 2026", *calls]) + "\n"
+        listed = saved("headline.calls", works("write", "-", given=text))
+        [row] = table(listed, "summary")
+        if tuple(row[name] for name in ("active", "worst", "readiness", "suppressed")) != tuple(map(str, said)):
+            yield f"{calls}: {row}, not {said}"
+        figures = works("recount", listed, "--csv").decode()
+        names = ("active at end", "worst at end", "readiness at end", "suppressed at end")
+        yield from (f"{calls}: not {name} {value}" for name, value in zip(names, said) if f"\n{name},{value}\n" not in figures)
+        page = works("replay", listed, "--only", "summary").decode()
+        yield from (f"{calls}: the page lacks {words}" for words in ("not suppressed", f" suppressed: {said[-1]} ") if words not in page)
 
 
 def narrow(_root):
@@ -246,6 +272,7 @@ USES = {
     "faults of texts": text_faults,
     "faults of lists": list_faults,
     "the page, JSON and CSV": page,
+    "headlines": headlines,
     "pages are narrow enough": narrow,
     "texts do not steer": steered,
     **recounts.CHECKS,

@@ -34,7 +34,7 @@ pub struct ListHistory<'a> {
 #[derive(Clone, Copy, Debug, PartialEq, Eq)]
 pub struct CountActive;
 
-/// 11: sums up: how many are active, the worst of them, and the audit counters.
+/// 11: sums up: how many are active, the worst of those that are not suppressed, and the audit counters.
 #[derive(Clone, Copy, Debug, PartialEq, Eq)]
 pub struct Summarise;
 

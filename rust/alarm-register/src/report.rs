@@ -119,14 +119,39 @@ impl<'a> Iterator for Counts<'a> {
 
 impl ExactSizeIterator for Counts<'_> {}
 
-/// The station at a glance.
+/// The station at a glance: how many alarms are active, and the headline.
+///
+/// The headline is work that waits: the worst severity, and what it means for the station, of the active alarms that are not
+/// suppressed. Acknowledged alarms are on it; suppressed ones are left aside, whatever their severity, and counted in `active`
+/// all the same. [`ListActive`](crate::ListActive) lists them too:
+///
+/// ```
+/// use alarm_register::{Limits, ListActive, Object, PlainAction, Raise, Readiness, Register, Severity, State, Summarise, Time};
+///
+/// let limits = Limits { active: 16, history: 64, audit: 16 };
+/// let mut bytes = vec![0; limits.register_length()];
+/// let mut answer = vec![0; limits.answer_room()];
+/// let mut register = Register::open(&mut bytes, limits)?;
+///
+/// let brake = Object::Interface { nf: "tower-9", name: "brake" };
+/// let open = Raise::new(Time(0), "A-1", "line.brake", Severity::Major, "other:ropeway.brake-open", brake);
+/// register.perform(&open, &mut answer)?;
+/// register.perform(&PlainAction::suppress(Time(1), "A-1").authorised(true), &mut answer)?;
+///
+/// let summary = register.perform(&Summarise, &mut answer)?;
+/// assert_eq!((summary.active, summary.worst, summary.readiness), (1, None, Readiness::NoImpact));
+/// assert_eq!(summary.to_string(), "1 active, all suppressed, no impact; audit events: 0 stored, 0 lost");
+/// let active = register.perform(&ListActive { severity: None }, &mut answer)?;
+/// assert_eq!(active.filter(|alarm| alarm.state == State::Suppressed).count(), 1);
+/// # Ok::<(), alarm_register::Refusal>(())
+/// ```
 #[derive(Clone, Copy, Debug, PartialEq, Eq)]
 pub struct Summary {
-    /// How many alarms are active.
+    /// How many alarms are active, suppressed ones among them.
     pub active: u64,
-    /// The worst severity of them, if any is.
+    /// The worst severity of those that are not suppressed; `None` where there is none.
     pub worst: Option<Severity>,
-    /// What the worst of them means for the station.
+    /// What the worst of those that are not suppressed means for the station.
     pub readiness: Readiness,
     /// Audit events stored since opening.
     pub successes: u64,
@@ -152,8 +177,9 @@ impl fmt::Display for Summary {
     fn fmt(&self, f: &mut fmt::Formatter<'_>) -> fmt::Result {
         write!(f, "{} active, ", self.active)?;
         match self.worst {
-            Some(worst) => write!(f, "worst {worst}, ")?,
-            None => f.write_str("none to rank, ")?,
+            Some(worst) => write!(f, "worst not suppressed {worst}, ")?,
+            None if self.active > 0 => f.write_str("all suppressed, ")?,
+            None => {}
         }
         write!(f, "{}; audit events: {} stored, {} lost", self.readiness, self.successes, self.failures)
     }

@@ -98,7 +98,7 @@ named_bytes! {
 }
 
 named_bytes! {
-    /// What the worst active alarm means for the station.
+    /// What the worst of the active alarms that are not suppressed means for the station.
     Readiness {
         /// Nothing.
         NoImpact = 0, "no impact";

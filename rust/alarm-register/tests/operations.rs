@@ -116,9 +116,29 @@ fn actions_with_policy_leave_events_until_the_audit_is_full() {
 }
 
 #[test]
+fn suppressed_alarms_are_off_the_headline() {
+    let mut desk = Desk::fresh();
+    desk.does(&raise(0, "a", TENANT_A));
+    desk.does(&Raise { severity: Severity::Critical, ..raise(0, "b", TENANT_B) });
+    let headline = |desk: &mut Desk| desk.does(&Summarise).to_string();
+    let said = |headline: &str| format!("2 active, {headline}; audit events: 0 stored, 0 lost");
+    assert_eq!(headline(&mut desk), said("worst not suppressed critical, not ready"));
+    desk.does(&PlainAction::acknowledge(Time(1), "b").authorised(true));
+    assert_eq!(headline(&mut desk), said("worst not suppressed critical, not ready"));
+    desk.does(&PlainAction::suppress(Time(2), "b").authorised(true));
+    assert_eq!(headline(&mut desk), said("worst not suppressed minor, no impact"));
+    desk.does(&PlainAction::suppress(Time(3), "a").authorised(true));
+    assert_eq!(headline(&mut desk), said("all suppressed, no impact"));
+    desk.does(&Raise { severity: Severity::Critical, ..raise(4, "a", TENANT_A) });
+    let summary = desk.does(&Summarise);
+    assert_eq!((summary.active, summary.worst, summary.readiness), (2, None, Readiness::NoImpact));
+    assert_eq!(desk.does(&CountActive).len(), 1);
+}
+
+#[test]
 fn expiry_lists_counts_and_summary() {
     let mut desk = Desk::fresh();
-    assert_eq!(desk.does(&Summarise).to_string(), "0 active, none to rank, no impact; audit events: 0 stored, 0 lost");
+    assert_eq!(desk.does(&Summarise).to_string(), "0 active, no impact; audit events: 0 stored, 0 lost");
     desk.does(&raise(100, "a", TENANT_A));
     desk.does(&Raise { severity: Severity::Major, ..raise(200, "b", TENANT_B) });
     let counts: Vec<String> = desk.does(&CountActive).map(|count| count.to_string()).collect();

@@ -298,6 +298,7 @@ mod tests {
             "refused",
             "refused 30",
             "worst at end",
+            "suppressed at end",
             "history entries at end",
             "active at end minor lease-lost",
             "raises lease-lost",

@@ -45,6 +45,7 @@ fn at_end(machine: &Machine, add: &mut impl FnMut(String, String)) -> Result<(),
         add("active at end".to_string(), summary.active.to_string());
         add("worst at end".to_string(), summary.worst.map_or("none", |worst| worst.name()).to_string());
         add("readiness at end".to_string(), summary.readiness.to_string());
+        add("suppressed at end".to_string(), machine.suppressed()?.to_string());
         add("audit events stored".to_string(), summary.successes.to_string());
         add("audit events lost".to_string(), summary.failures.to_string());
     }

@@ -27,9 +27,11 @@ and has a figure on each line:
   expired                   alarms that expire calls ended
   alarms CAUSE              new alarms of a cause
   raises CAUSE              raises of a cause, with those of an active alarm
-  active at end, active at end SEVERITY CAUSE, worst at end, readiness at end,
+  active at end, active at end SEVERITY CAUSE, suppressed at end,
   history entries at end, audit events held at end
                             what the register holds after the last call
+  worst at end, readiness at end
+                            of the active alarms that are then not suppressed
   audit events stored, audit events lost
                             the register's audit counters
 

@@ -11,6 +11,8 @@ enum OnPage {
     Below,
     /// The same, with its name; for what few rows have.
     BelowNamed,
+    /// A line lower in the column of that name, with its own: for what came later, and stands last for scripts.
+    BelowNamedAt(&'static str),
     /// Not at all.
     Nowhere,
 }
@@ -45,6 +47,11 @@ pub const fn below(name: &'static str) -> Column {
 /// A column that a page shows below the one before it, with its name.
 pub const fn below_named(name: &'static str) -> Column {
     Column { name, on_page: OnPage::BelowNamed }
+}
+
+/// A column that a page shows below another one, with its name.
+pub const fn below_named_at(name: &'static str, above: &'static str) -> Column {
+    Column { name, on_page: OnPage::BelowNamedAt(above) }
 }
 
 /// A column for scripts alone.
@@ -128,6 +135,11 @@ impl Table {
                         above.push(place);
                     }
                 }
+                OnPage::BelowNamedAt(above) => {
+                    if let Some((_, above)) = shown.iter_mut().find(|(_, places)| self.columns[places[0]].name == above) {
+                        above.push(place);
+                    }
+                }
                 OnPage::Nowhere => {}
             }
         }
@@ -139,7 +151,7 @@ impl Table {
     /// A column of a page, which shows the table's columns at these places.
     fn page_column(&self, setting: Setting, places: &[usize]) -> PageColumn {
         let name = |place: &usize| self.columns[*place].name.replace('_', " ");
-        let named = |place: &usize| self.columns[*place].on_page == OnPage::BelowNamed;
+        let named = |place: &usize| matches!(self.columns[*place].on_page, OnPage::BelowNamed | OnPage::BelowNamedAt(_));
         let heading = places.iter().filter(|place| !named(place)).map(name).collect();
         let lines = |row: &Vec<Cell>, place: &usize| -> Vec<String> {
             let label = if named(place) { name(place) + ": " } else { String::new() };

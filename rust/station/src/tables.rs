@@ -1,6 +1,6 @@
 //! The tables of a page, asked of a register.
 use crate::replay::{Machine, Often, Tally};
-use crate::table::{below, below_named, column, numbers, off_page, times, Cell, Column, Table};
+use crate::table::{below, below_named, below_named_at, column, numbers, off_page, times, Cell, Column, Table};
 use crate::text::Zone;
 use alarm_register::{
     code_name, Alarm, AuditEvent, CountActive, ListActive, ListHistory, Operation, Refusal, Summarise, Summary, TakeAudit, Time,
@@ -31,7 +31,7 @@ pub fn of(machine: &Machine, tally: &Tally, zone: Zone) -> Result<Vec<Table>, Re
         events(tally, zone, TakeAudit::read_answer(&audit).into_iter().flatten()),
         counted(&counts),
         answers(tally),
-        summed(Summarise::read_answer(&summary)),
+        summed(Summarise::read_answer(&summary), machine.suppressed()?),
     ])
 }
 
@@ -157,8 +157,16 @@ fn answers(tally: &Tally) -> Table {
     Table { name: "answers", title: "WHAT THE CALLS WERE ANSWERED".to_string(), columns, rows }
 }
 
-fn summed(summary: Option<Summary>) -> Table {
-    let columns = vec![numbers("active"), column("worst"), column("readiness"), numbers("audit_stored"), numbers("audit_lost")];
+/// The headline, and beside it how many alarms it leaves aside.
+fn summed(summary: Option<Summary>, suppressed: u64) -> Table {
+    let columns = vec![
+        numbers("active"),
+        column("worst"),
+        column("readiness"),
+        numbers("audit_stored"),
+        numbers("audit_lost"),
+        below_named_at("suppressed", "active"),
+    ];
     let row = |summary: Summary| {
         vec![
             Cell::Number(summary.active),
@@ -166,7 +174,9 @@ fn summed(summary: Option<Summary>) -> Table {
             Cell::of(summary.readiness),
             Cell::Number(summary.successes),
             Cell::Number(summary.failures),
+            Cell::Number(suppressed),
         ]
     };
-    Table { name: "summary", title: "SUMMARY".to_string(), columns, rows: summary.map(row).into_iter().collect() }
+    let title = "SUMMARY: worst and readiness of the active alarms that are not suppressed".to_string();
+    Table { name: "summary", title, columns, rows: summary.map(row).into_iter().collect() }
 }
