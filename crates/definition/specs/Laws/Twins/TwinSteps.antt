@@ -157,7 +157,7 @@ historyList-twin u w = look-related (λ s t p. told twin-lasts (listed (inScope 
 
 counts-twin : {n : ℕ} → Related (Twin n) (Told twin 0 n) counts counts
 unfolding counts
-counts-twin = look-related (λ s t p. told twin-lasts (seen (λ l. Counts (tally (map rating l))) (λ l. ap (λ r. Counts (tally r)) (map-map rating blank l)) (s .active) (t .active) (p .pairs)) refl (omega arith) s t p)
+counts-twin = look-related (λ s t p. told twin-lasts (ap (λ l. Counts (tally l)) (seen (map rating) (map-map rating blank) (s .active) (t .active) (p .pairs))) refl (omega arith) s t p)
 
 summary-twin : {n : ℕ} → Related (Twin n) (Told twin 0 n) summary summary
 unfolding summary

@@ -4,8 +4,8 @@ use borrow.Author.Needs.{needs}
 use denote.Ref.{now}
 use Rattle.register.specs.WalkLaws.{content-width}
 use Rattle.metrics.specs.HeadlineLaws.{shows-none, shows-severity}
-use Rattle.metrics.proofs.shown.Statement.{statement}
-use Rattle.metrics.proofs.shown.Tie as tie
+use Rattle.metrics.proofs.headline.shown.Statement.{statement}
+use Rattle.metrics.proofs.headline.shown.Tie as tie
 
 state-requires : tie.Need-state-requires
 state-requires c κs = content-width _ _ (c .before .before .pre) (c .payload .ensures)

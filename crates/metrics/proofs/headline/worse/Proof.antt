@@ -1,9 +1,8 @@
 -- `worse`: by cases.
-use mathlib.Core.Path.{_∙_, sym}
 use borrow.Author.Needs.{needs}
 use borrow.Author.Tests.{eq-eqb, ne-eqb}
-use Rattle.metrics.proofs.worse.Statement.{statement}
-use Rattle.metrics.proofs.worse.Tie as tie
+use Rattle.metrics.proofs.headline.worse.Statement.{statement}
+use Rattle.metrics.proofs.headline.worse.Tie as tie
 
 returns : tie.Need-returns
 returns c = rw (eq-eqb _ 255 (c .if1 .taken))
