@@ -63,7 +63,8 @@ pub(crate) struct Headline {
     pub(crate) readiness: u8,
 }
 
-pub(crate) fn of(register: &[u8]) -> Headline
+// The headline of a register.
+pub(crate) fn read(register: &[u8]) -> Headline
     requires { ⌜ T (sound (now register)) ⌝ }
     ensures { λ r. ⌜ r .worst ≡ worstOf (headline (alarmsOn 0 (now (register .entry)))) ⌝ }
     ensures { λ r. ⌜ r .readiness ≡ worstImpact (headline (alarmsOn 0 (now (register .entry)))) ⌝ }

@@ -22,6 +22,9 @@ and the summary. The page leaves out types, scopes, details and keys; --json and
   --csv          the table of --only as CSV
   -o REGISTER    also writes the register's bytes to a file, for `station check`
 
+In the summary worst severity and readiness are of the active alarms that are not
+suppressed; how many are suppressed stands below the number of active ones.
+
 Audit events that calls of the list took out stand in the audit trail with the
 number of the call that took them. On a terminal a bar shows how far a long
 replay has come.

@@ -1,11 +1,11 @@
--- `of`: the worst severity and impact of the records passed.
+-- `read`: the worst severity and impact of the records passed.
 use Prim.Native.Nat.{_-_}
 use native.Mathlib.Omega.{arith}
 use borrow.Author.Needs.{needs}
 use Rattle.history.specs.WalkLaws.{reached-first, reached-fits}
 use Rattle.metrics.specs.HeadlineLaws.{Passed, passed-none, passed-next, passed-all}
-use Rattle.metrics.proofs.headline.of.Statement.{statement}
-use Rattle.metrics.proofs.headline.of.Tie as tie
+use Rattle.metrics.proofs.headline.read.Statement.{statement}
+use Rattle.metrics.proofs.headline.read.Tie as tie
 
 abbrev Inv-loop : tie.InvT-loop
 Inv-loop register n at₀ worst₀ impact₀ k₀ at worst impact k = Passed register n k at worst impact
@@ -32,8 +32,8 @@ loop-again c =
 returns : tie.Need-returns Inv-loop μ-loop
 returns c = passed-all (c .before .loop .inv) (omega (arith, c .loop-test .left))
 
-pub of-spec : {M : Type 1} → statement M
-of-spec =
+pub read-spec : {M : Type 1} → statement M
+read-spec =
     tie.close
     (tie.spec
     Inv-loop
