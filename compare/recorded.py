@@ -9,6 +9,7 @@ but the order of what a HashMap holds: that is document 01's, the order in which
 readiness where the Rust holds suppressed alarms: these leave them aside (M-103, see original.py).
 """
 import collections
+import functools
 import hashlib
 import json
 import random
@@ -20,7 +21,7 @@ import headline
 import model
 import programs
 from checklist import Skip, run
-from differential import ANSWERS, Tools, counted, modelled, ran, refusals
+from differential import ANSWERS, Difference, Tools, counted, modelled, ran, refusals
 from orders import Open, Step, written
 from original import EXPIRED, Original, summary_body
 from records import ROOT, WIDTH, alarm_record, event_record
@@ -166,11 +167,14 @@ def by_model(_root):
             yield f"order {place}: number {outcome.number} and length {outcome.length}, recorded: {line.strip()}"
 
 
+@functools.cache
 def tally():
     """What the lists meet, by the model."""
     found = collections.Counter()
-    for _ in counted(list(read(STDIN.read_bytes())), Tools(), found):
-        pass
+    try:
+        collections.deque(counted(list(read(STDIN.read_bytes())), Tools(), found), maxlen=0)
+    except Difference as fault:
+        raise ValueError(fault) from None
     return found
 
 

@@ -136,7 +136,7 @@ def page(_root):
 
 
 def headlines(_root):
-    """Worst and readiness are of the alarms that are not suppressed, and how many are suppressed is shown beside them in every form."""
+    """Worst and readiness are of the alarms that are not suppressed, and how many are suppressed stands beside them, on the page and as CSV."""
     raised = "09:00 raise id={0} type=t severity={1} cause=lease-lost object=tenant({0})".format
     done = "09:01 {} id={} authorised=yes".format
     critical, suppressed = raised("a", "critical"), done("suppress", "a")

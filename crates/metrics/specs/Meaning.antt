@@ -9,8 +9,7 @@ use Rattle.octets.specs.Bytes.{Bytes, at32, be32}
 use Rattle.definition.specs.Chain.{those}
 use Rattle.definition.specs.Key.{string}
 use Rattle.definition.specs.Answer.{Count, countEntries}
-use Rattle.definition.specs.Alarm.{Alarm}
-use Rattle.definition.specs.Reports.{onHeadline, Rating, rating, sameRating, countOf, firstsFrom, tally}
+use Rattle.definition.specs.Reports.{Rating, rating, sameRating, countOf, firstsFrom, tally}
 use Rattle.history.specs.Walk.{alarmAt, alarmsOn, Reached}
 
 -- ---- the active chain
@@ -30,9 +29,9 @@ pub record AtPlace (b : Bytes) (k i : ℕ) : Type 0 where
 abbrev pub worse : ℕ → ℕ → ℕ
 worse v w = cond (eqb w 255) v (cond (eqb v 255) w (max v w))
 
--- the severity v of an alarm, and none where it is left aside
-abbrev pub shown : Alarm → ℕ → ℕ
-shown a v = cond (onHeadline a) v 255
+-- the severity v of an alarm in state x, and none where that is 3, suppressed
+abbrev pub shown : ℕ → ℕ → ℕ
+shown x v = cond (eqb x 3) 255 v
 
 -- ---- ratings
 

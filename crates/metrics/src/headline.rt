@@ -5,9 +5,8 @@ ghost use Prim.Native.Nat.{max};
 ghost use lib.Dec.{T};
 ghost use Rattle.definition.specs.Reports.{headline, worst as worstOf, impact, worstImpact};
 ghost use Rattle.definition.specs.Sound.{sound};
-ghost use Rattle.history.specs.Walk.{alarmAt, alarmsOn};
-ghost use Rattle.metrics.specs.Meaning.{Fits, worse as worseOf, shown as shownOf};
-use super::rating;
+ghost use Rattle.history.specs.Walk.{alarmsOn};
+ghost use Rattle.metrics.specs.Meaning.{worse as worseOf, shown as shownOf};
 use register::ACTIVE;
 
 // Stands for a severity where there is none.
@@ -46,12 +45,11 @@ fn readiness(severity: u8) -> u8
     if severity == 4 { 1 } else { 0 }
 }
 
-// The severity of record i's alarm as the headline has it: none where the alarm is suppressed, and so left aside.
-fn shown(register: &[u8], i: u32, severity: u8) -> u8
-    requires { ⌜ Fits (now register) i ⌝ }
-    ensures { λ r. ⌜ r ≡ shownOf (alarmAt (now (register .entry)) i) severity ⌝ }
+// The severity of an alarm in a state, or none where that is suppressed: such an alarm is left aside.
+fn shown(state: u8, severity: u8) -> u8
+    ensures { λ r. ⌜ r ≡ shownOf state severity ⌝ }
 {
-    if record::state(register::payload(register, i)) == SUPPRESSED {
+    if state == SUPPRESSED {
         return NONE;
     }
     severity
@@ -75,8 +73,9 @@ pub(crate) fn read(register: &[u8]) -> Headline
     let mut impact = 0;
     let mut k = 0;
     while k < n {
-        let severity = rating::severity(register, at);
-        let v = shown(register, at, severity);
+        let alarm = register::payload(register, at);
+        let severity = record::severity(alarm);
+        let v = shown(record::state(alarm), severity);
         worst = worse(worst, v);
         impact = higher(impact, readiness(v));
         at = register::next(register, at);

@@ -177,7 +177,7 @@ impl fmt::Display for Summary {
     fn fmt(&self, f: &mut fmt::Formatter<'_>) -> fmt::Result {
         write!(f, "{} active, ", self.active)?;
         match self.worst {
-            Some(worst) => write!(f, "worst not suppressed {worst}, ")?,
+            Some(worst) => write!(f, "worst of those not suppressed: {worst}, ")?,
             None if self.active > 0 => f.write_str("all suppressed, ")?,
             None => {}
         }

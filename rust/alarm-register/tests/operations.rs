@@ -122,11 +122,11 @@ fn suppressed_alarms_are_off_the_headline() {
     desk.does(&Raise { severity: Severity::Critical, ..raise(0, "b", TENANT_B) });
     let headline = |desk: &mut Desk| desk.does(&Summarise).to_string();
     let said = |headline: &str| format!("2 active, {headline}; audit events: 0 stored, 0 lost");
-    assert_eq!(headline(&mut desk), said("worst not suppressed critical, not ready"));
+    assert_eq!(headline(&mut desk), said("worst of those not suppressed: critical, not ready"));
     desk.does(&PlainAction::acknowledge(Time(1), "b").authorised(true));
-    assert_eq!(headline(&mut desk), said("worst not suppressed critical, not ready"));
+    assert_eq!(headline(&mut desk), said("worst of those not suppressed: critical, not ready"));
     desk.does(&PlainAction::suppress(Time(2), "b").authorised(true));
-    assert_eq!(headline(&mut desk), said("worst not suppressed minor, no impact"));
+    assert_eq!(headline(&mut desk), said("worst of those not suppressed: minor, no impact"));
     desk.does(&PlainAction::suppress(Time(3), "a").authorised(true));
     assert_eq!(headline(&mut desk), said("all suppressed, no impact"));
     desk.does(&Raise { severity: Severity::Critical, ..raise(4, "a", TENANT_A) });

@@ -1,7 +1,8 @@
 //! The figures of a list of calls, and of a report that is to be recounted.
 use crate::replay::{Machine, Tally};
 use crate::table::{column, numbers, Cell, Table};
-use alarm_register::{code_name, CountActive, ListHistory, Operation, Refusal, Summarise, TakeAudit};
+use crate::tables::suppressed;
+use alarm_register::{code_name, CountActive, ListActive, ListHistory, Operation, Refusal, Summarise, TakeAudit};
 use std::ops::RangeInclusive;
 
 /// A figure: its name and its value.
@@ -45,7 +46,8 @@ fn at_end(machine: &Machine, add: &mut impl FnMut(String, String)) -> Result<(),
         add("active at end".to_string(), summary.active.to_string());
         add("worst at end".to_string(), summary.worst.map_or("none", |worst| worst.name()).to_string());
         add("readiness at end".to_string(), summary.readiness.to_string());
-        add("suppressed at end".to_string(), machine.suppressed()?.to_string());
+        let active = machine.look(&ListActive { severity: None }.call())?;
+        add("suppressed at end".to_string(), suppressed(&active).to_string());
         add("audit events stored".to_string(), summary.successes.to_string());
         add("audit events lost".to_string(), summary.failures.to_string());
     }

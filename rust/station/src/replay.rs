@@ -1,7 +1,7 @@
 //! Lists of calls, run from a fresh register.
 use crate::list::List;
 use crate::progress::Progress;
-use alarm_register::{Alarm, AuditEvents, Balance, CallBytes, Head, ListActive, Operation, Refusal, Register, State, TakeAudit};
+use alarm_register::{AuditEvents, Balance, CallBytes, Head, Operation, Refusal, Register, TakeAudit};
 use std::collections::BTreeMap;
 
 /// A register of its own, with room for every answer.
@@ -30,13 +30,6 @@ impl Machine {
     /// How many alarms are active.
     pub fn active_length(&mut self) -> u32 {
         Register::over(&mut self.register).active_length().unwrap_or_default()
-    }
-
-    /// How many active alarms are suppressed: those that a summary's worst severity and readiness leave aside.
-    pub fn suppressed(&self) -> Result<u64, Refusal> {
-        let answer = self.look(&ListActive { severity: None }.call())?;
-        let is_suppressed = |alarm: &Alarm<'_>| alarm.state == State::Suppressed;
-        Ok(ListActive::read_answer(&answer).into_iter().flatten().filter(is_suppressed).count() as u64)
     }
 
     /// The answer to an operation, on a copy of the register: what the list's calls find is not changed by looking.

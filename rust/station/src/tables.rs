@@ -3,7 +3,7 @@ use crate::replay::{Machine, Often, Tally};
 use crate::table::{below, below_named, below_named_at, column, numbers, off_page, times, Cell, Column, Table};
 use crate::text::Zone;
 use alarm_register::{
-    code_name, Alarm, AuditEvent, CountActive, ListActive, ListHistory, Operation, Refusal, Summarise, Summary, TakeAudit, Time,
+    code_name, Alarm, AuditEvent, CountActive, ListActive, ListHistory, Operation, Refusal, State, Summarise, Summary, TakeAudit, Time,
 };
 
 /// The tables of a page. Everything but the answers is asked of the register itself, by operations 8 to 12.
@@ -31,7 +31,7 @@ pub fn of(machine: &Machine, tally: &Tally, zone: Zone) -> Result<Vec<Table>, Re
         events(tally, zone, TakeAudit::read_answer(&audit).into_iter().flatten()),
         counted(&counts),
         answers(tally),
-        summed(Summarise::read_answer(&summary), machine.suppressed()?),
+        summed(Summarise::read_answer(&summary), suppressed(&active)),
     ])
 }
 
@@ -155,6 +155,12 @@ fn answers(tally: &Tally) -> Table {
     let rows = tally.codes.iter().map(answer).chain(tally.refused.iter().map(refusal)).collect();
     let columns = vec![numbers("calls"), numbers("number"), column("answer"), numbers("first_call")];
     Table { name: "answers", title: "WHAT THE CALLS WERE ANSWERED".to_string(), columns, rows }
+}
+
+/// How many alarms of an active list are suppressed: those that a summary's worst severity and readiness leave aside.
+pub fn suppressed(active: &[u8]) -> u64 {
+    let alarms = ListActive::read_answer(active).into_iter().flatten();
+    alarms.filter(|alarm| alarm.state == State::Suppressed).count() as u64
 }
 
 /// The headline, and beside it how many alarms it leaves aside.

@@ -56,6 +56,15 @@ refused n = record { number = n; length = 0; answer = []; register = register }
 abbrev pub counted : List Reply → List (ℕ × Option ℕ × ℕ)
 counted q = map (λ (r : Reply). (r .number, codeOf (r .answer), numberAt 8 (r .answer) 8)) q
 
+-- the last call's answer, and the item count in its head
+abbrev pub lastAnswer : List Reply → Bytes
+lastAnswer [] = []
+lastAnswer (r ∷ []) = r .answer
+lastAnswer (r ∷ (r′ ∷ q)) = lastAnswer (r′ ∷ q)
+
+abbrev pub lastCount : List Reply → ℕ
+lastCount q = numberAt 4 (lastAnswer q) 4
+
 -- ---- the register that calls leave
 
 abbrev leftFrom : Bytes → List Reply → Bytes

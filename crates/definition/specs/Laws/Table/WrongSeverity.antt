@@ -14,7 +14,7 @@ use Rattle.definition.specs.Twins.{AtEach}
 use Rattle.definition.specs.Claim.{Fresh, Made}
 use Rattle.definition.specs.Reach.{beforeSeverity, SeverityApart, OneApart, MadeApart, BoundedAfter}
 use Rattle.definition.specs.Laws.Table.Calls.{sentBeforeSeverity, sentBehindSeverity, raiseAs, suppressByPolicy, expire}
-use Rattle.definition.specs.Laws.Table.Shown.{register, ample, repliesTo, left, answered, leaving}
+use Rattle.definition.specs.Laws.Table.Shown.{register, ample, repliesTo, lastCount, left, answered, leaving}
 use Rattle.definition.specs.Laws.Table.Computed.{parsed}
 use Rattle.definition.specs.Laws.Table.Stations.{allOctets, computed, by-stations}
 use Rattle.definition.specs.Laws.Table.Marked.{marked}
@@ -23,12 +23,6 @@ use Rattle.definition.specs.Laws.Table.RunMade.{madesOf, run-trace, run-
 -- in the header active_length 16, history_length 24
 abbrev held : Bytes → ℕ × ℕ
 held b = (at32 b 16, at32 b 24)
-
--- the item count in the head of the last answer
-abbrev lastCount : List Reply → ℕ
-lastCount [] = 0
-lastCount (r ∷ []) = numberAt 4 (r .answer) 4
-lastCount (r ∷ (r′ ∷ q)) = lastCount (r′ ∷ q)
 
 -- how many active alarms operation 8 lists for the severity u, after a raise with the severity v
 abbrev listed : ℕ → ℕ → ℕ

@@ -2,6 +2,7 @@
 use Prim.Native.Nat.{_-_}
 use native.Mathlib.Omega.{arith}
 use borrow.Author.Needs.{needs}
+use Rattle.register.specs.WalkLaws.{content-width}
 use Rattle.history.specs.WalkLaws.{reached-first, reached-fits}
 use Rattle.metrics.specs.HeadlineLaws.{Passed, passed-none, passed-next, passed-all}
 use Rattle.metrics.proofs.headline.read.Statement.{statement}
@@ -25,9 +26,12 @@ loop-again c =
     let i = m .before in
     let w = i .before in
     let v = w .before in
-    let s = v .before in
-    let t = s .before in
-    passed-next (t .before .loop .inv) (t .loop-test .taken) (s .severity .ensures) (v .shown .ensures) (w .worse .ensures) (i .readiness .ensures) (m .higher .ensures) (c .next .ensures)
+    let x = v .before in
+    let s = x .before in
+    let a = s .before in
+    let t = a .before in
+    passed-next (t .before .loop .inv) (t .loop-test .taken) (a .payload .ensures) (s .severity .ensures) (x .state .ensures) (v .shown .ensures) (w .worse .ensures) (i .readiness .ensures)
+    (m .higher .ensures) (c .next .ensures)
 
 returns : tie.Need-returns Inv-loop μ-loop
 returns c = passed-all (c .before .loop .inv) (omega (arith, c .loop-test .left))
@@ -42,11 +46,13 @@ read-spec =
     (λ c κs. search needs)
     loop-holds
     (λ c κs. reached-fits (c .before .loop .inv .reached) (c .loop-test .taken))
-    (λ c κs. let t = c .before in reached-fits (t .before .loop .inv .reached) (t .loop-test .taken))
+    (λ c κs. let t = c .before in content-width _ _ (reached-fits (t .before .loop .inv .reached) (t .loop-test .taken)) (c .payload .ensures))
+    (λ c κs. let a = c .before in let t = a .before in content-width _ _ (reached-fits (t .before .loop .inv .reached) (t .loop-test .taken)) (a .payload .ensures))
     (λ c κs. search needs)
     (λ c κs. search needs)
     (λ c κs. search needs)
-    (λ c κs. let t = c .before .before .before .before .before in reached-fits (t .before .loop .inv .reached) (t .loop-test .taken))
+    (λ c κs. search needs)
+    (λ c κs. let t = c .before .before .before .before .before .before .before in reached-fits (t .before .loop .inv .reached) (t .loop-test .taken))
     (λ c. search needs)
     (λ c. search needs)
     loop-again
