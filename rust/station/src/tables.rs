@@ -3,7 +3,8 @@ use crate::replay::{Machine, Often, Tally};
 use crate::table::{below, below_named, below_named_at, column, numbers, off_page, times, Cell, Column, Table};
 use crate::text::Zone;
 use alarm_register::{
-    code_name, Alarm, AuditEvent, CountActive, ListActive, ListHistory, Operation, Refusal, State, Summarise, Summary, TakeAudit, Time,
+    code_name, Alarm, AuditEvent, CountActive, ListActive, ListHistory, Operation, Refusal, State, Summarise, Summary, TakeAudit,
+    Time,
 };
 
 /// The tables of a page. Everything but the answers is asked of the register itself, by operations 8 to 12.
