@@ -11,8 +11,8 @@ def worst(alarms):
     return max((alarm["severity"] for alarm in alarms), default=255), max((alarm["readiness"] for alarm in alarms), default=0)
 
 
-def without(alarms, state):
-    return [alarm for alarm in alarms if alarm["state"] != state]
+def without(alarms, *states):
+    return [alarm for alarm in alarms if alarm["state"] not in states]
 
 
 def headline(active):

@@ -9,7 +9,7 @@ import sys
 
 import imports  # noqa: F401  (finds the reading of calls)
 from differential import modelled
-from headline import ACKNOWLEDGED, SUMMARY, SUPPRESSED, worst
+from headline import ACKNOWLEDGED, SUMMARY, SUPPRESSED, without, worst
 from orders import Counters, Given, Open, Step
 from original import active_shown
 
@@ -86,7 +86,7 @@ def is_summary(order, number):
 
 def active(register, *left_aside):
     """The active alarms but those in these states."""
-    return [alarm for alarm in active_shown(register) if alarm["state"] not in left_aside]
+    return without(active_shown(register), *left_aside)
 
 
 def summary_of(*left_aside):

@@ -52,9 +52,9 @@ named_bytes! {
         Warning = 2, "warning";
         /// Impaired a little.
         Minor = 3, "minor";
-        /// Impaired badly: readiness is degraded.
+        /// Impaired badly: readiness is degraded, unless the alarm is suppressed.
         Major = 4, "major";
-        /// Out of service: not ready.
+        /// Out of service: not ready, unless the alarm is suppressed.
         Critical = 5, "critical";
     }
 }
@@ -68,7 +68,7 @@ named_bytes! {
         Updated = 1, "updated";
         /// Taken note of by a person.
         Acknowledged = 2, "acknowledged";
-        /// Put aside by a person.
+        /// Put aside by a person; a summary's worst severity and readiness leave it aside too.
         Suppressed = 3, "suppressed";
         /// Ended by a clear.
         Cleared = 4, "cleared";

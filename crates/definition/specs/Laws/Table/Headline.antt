@@ -1,13 +1,14 @@
--- M-103: what a summary says behind the smallest lists of calls, by computation: which alarms are left aside, and that both bytes, and no
--- other number, leave them aside.
+-- M-103: what a summary says behind the smallest lists of calls, by computation: which alarms its two bytes leave aside, and that its number,
+-- and the items of operations 8 and 10, still include them.
 use Prim.Native.Nat.{ℕ}
 use mathlib.Core.Path.{_≡_, refl}
 use mathlib.Core.List.{List, [], _∷_, _++_, map}
 use lib.Dec.{T}
 use lib.ListN.{getD}
 use Rattle.octets.specs.Bytes.{Bytes, numberAt}
-use Rattle.definition.specs.Answer.{countEntries}
-use Rattle.definition.specs.Reports.{firstsFrom, tally, counts, worst, worstImpact, summary}
+use Rattle.definition.specs.Parse.{severityOrAll}
+use Rattle.definition.specs.Answer.{alarmRecords, countEntries}
+use Rattle.definition.specs.Reports.{activeList, firstsFrom, tally, counts, worst, worstImpact, summary}
 use Rattle.definition.specs.Lists.{Reply}
 use Rattle.definition.specs.Laws.Table.Calls.{byte, raise, raiseAs, acknowledge, suppress}
 use Rattle.definition.specs.Laws.Table.Shown.{ample, repliesTo, lastAnswer, lastCount}
@@ -31,14 +32,16 @@ pub record Headlines : Type 0 where
   pub suppressed : summaryBehind (raiseAs 4 ∷ suppress "a" 1 ∷ []) ≡ (1, 255, 0)
   -- acknowledged ones are none of them
   pub acknowledged : summaryBehind (raiseAs 4 ∷ acknowledge "a" 1 ∷ []) ≡ (1, 4, 1)
-  -- one of two: the other is the worst, though its severity is 0
-  pub one-of-two : summaryBehind (raise 0 "b" "b" ∷ suppress "b" 1 ∷ raiseAs 0 ∷ []) ≡ (2, 0, 0)
-  -- raised again it stays suppressed, critical or not
+  -- one of two: the other is the worst, also where its severity is 0
+  pub one-of-two : summaryBehind (raise 0 "a" "a" ∷ raise 0 "b" "b" ∷ suppress "a" 1 ∷ []) ≡ (2, 3, 0)
+  pub other-zero : summaryBehind (raise 0 "b" "b" ∷ suppress "b" 1 ∷ raiseAs 0 ∷ []) ≡ (2, 0, 0)
+  -- raised again, and as critical, it stays suppressed
   pub raised-again : summaryBehind (raise 0 "a" "a" ∷ suppress "a" 1 ∷ raiseAs 5 ∷ []) ≡ (1, 255, 0)
   -- and acknowledged it is back
   pub back : summaryBehind (raise 0 "a" "a" ∷ suppress "a" 1 ∷ raiseAs 5 ∷ acknowledge "a" 1 ∷ []) ≡ (1, 5, 2)
-  -- "Counts .. still include them": operation 10 has an entry
+  -- "Counts .. still include them": operation 10 has an entry; and operation 8 for all severities a record
   pub counted : lastCount (repliesTo (raise 0 "a" "a" ∷ suppress "a" 1 ∷ byte 10 ∷ [])) ≡ 1
+  pub listed : lastCount (repliesTo (raise 0 "a" "a" ∷ suppress "a" 1 ∷ (8 ∷ 255 ∷ []) ∷ [])) ≡ 1
 
 computes :
     (l : List Bytes) {x : ℕ × ℕ × ℕ} → T (allOctets (map ample (thenSummary l))) → said (computed (map ample (thenSummary l))) ≡ x → summaryBehind l ≡ x
@@ -46,13 +49,15 @@ unfolding summaryBehind
 computes l = by-stations said (thenSummary l)
 
 pub headlines : Headlines
-unfolding allOctets computed summary worst worstImpact counts tally firstsFrom countEntries
+unfolding allOctets computed severityOrAll activeList alarmRecords summary worst worstImpact counts tally firstsFrom countEntries
 headlines =
     record {
       suppressed = computes _ tt refl;
       acknowledged = computes _ tt refl;
       one-of-two = computes _ tt refl;
+      other-zero = computes _ tt refl;
       raised-again = computes _ tt refl;
       back = computes _ tt refl;
       counted = by-stations lastCount _ tt refl;
+      listed = by-stations lastCount _ tt refl;
     }
