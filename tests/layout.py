@@ -18,7 +18,7 @@ ROOM = {
     "cause": CAUSE, "region": REGION, "text": TEXT, "reason": TEXT, "details": DETAILS,
 }
 NUMBER = {
-    "key": 16, "severity": 1, "state": 1, "raised_at": 8, "updated_at": 8,
+    "key": 16, "severity": 1, "state": 1, "raised_at": 8, "updated_at": 8, "raises": 4,
     "action": 1, "outcome": 1, "occurred_at": 8,
 }
 LENGTH = 2
@@ -31,7 +31,8 @@ STRING, OPTION = {"len", "at"}, {"present", "len", "at"}
 OBJECT = {"kind", "strings", "shard_present", "queue", "use", "present_kinds"}
 ALARM = {"key": None, "severity": None, "state": None, "raised_at": None, "updated_at": None,
          "cleared_at": {"present", "at"}, "id": STRING, "type": STRING, "cause": STRING, "object": OBJECT,
-         "tenant": OPTION, "slice": OPTION, "region": OPTION, "text": STRING, "details": OPTION}
+         "tenant": OPTION, "slice": OPTION, "region": OPTION, "text": STRING, "details": OPTION,
+         "raises": None}
 EVENT = {"action": None, "outcome": None, "occurred_at": None, "id": STRING, "type": STRING, "cause": STRING,
          "principal": STRING, "tenant": OPTION, "reason": STRING, "scope": {"kind", "string"}, "correlation": OPTION}
 
