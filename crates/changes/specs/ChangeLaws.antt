@@ -2,10 +2,10 @@
 use Prim.Native.Nat.{ℕ}
 use mathlib.Core.Path.{_≡_, sym}
 use Rattle.octets.specs.Bytes.{Bytes}
-use Rattle.definition.specs.Alarm.{late, withSeverity, withState, withUpdated, withCleared, withText, withDetails}
+use Rattle.definition.specs.Alarm.{late, withSeverity, withState, withUpdated, withCleared, withText, withDetails, withRaises}
 use Rattle.definition.specs.Record.{lastActive, alarmBytes, readAlarm}
 use Rattle.definition.specs.Value.{Action}
-use Rattle.definition.specs.Steps.{actionState, updatedState, actedOn, clearedBy, expiredBy}
+use Rattle.definition.specs.Steps.{actionState, updatedState, oneMore, actedOn, clearedBy, expiredBy}
 use Rattle.history.specs.Meaning.{IsAlarm}
 use Rattle.history.specs.AlarmRecordLaws.{payload-bytes}
 use Rattle.changes.specs.Meaning.{Turns, NewsValue, updatedWith}
@@ -28,7 +28,10 @@ module _ (p : Bytes) (i : IsAlarm lastActive p) where
   unfolding expiredBy
   expired cutoff q r s f g h = h _ (g _ (f _ holds))
 
-  pub updated : (n : NewsValue) (x t : ℕ) (q r s u v : Bytes) → x ≡ updatedState (readAlarm p .state) → t ≡ late (n .time) (readAlarm p .raisedAt) →
-      Turns (withSeverity (n .severity)) p q → Turns (withText (n .text)) q r → Turns (withDetails (n .details)) r s → Turns (withState x) s u → Turns (withUpdated t) u v →
-      v ≡ alarmBytes (updatedWith n (readAlarm p))
-  updated n x t q r s u v hx ht f g h k l = rw (sym hx, sym ht) (l _ (k _ (h _ (g _ (f _ holds)))))
+  pub updated :
+      (n : NewsValue) (x t m : ℕ) (q r s u v w : Bytes) →
+      x ≡ updatedState (readAlarm p .state) → t ≡ late (n .time) (readAlarm p .raisedAt) → m ≡ oneMore (readAlarm p .raises) →
+      Turns (withSeverity (n .severity)) p q → Turns (withText (n .text)) q r → Turns (withDetails (n .details)) r s → Turns (withState x) s u →
+      Turns (withUpdated t) u v → Turns (withRaises m) v w →
+      w ≡ alarmBytes (updatedWith n (readAlarm p))
+  updated n x t m q r s u v w hx ht hm f g h k l o = rw (sym hx, sym ht, sym hm) (o _ (l _ (k _ (h _ (g _ (f _ holds))))))

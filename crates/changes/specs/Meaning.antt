@@ -5,9 +5,9 @@ use mathlib.Core.Option.{Option}
 use Rattle.octets.specs.Bytes.{Bytes}
 use Rattle.definition.specs.Limits.{textLimit, detailsLimit}
 use Rattle.definition.specs.Value.{RaiseValue}
-use Rattle.definition.specs.Alarm.{Alarm, withSeverity, withText, withDetails, withState, withUpdated, late}
+use Rattle.definition.specs.Alarm.{Alarm, withSeverity, withText, withDetails, withState, withUpdated, withRaises, late}
 use Rattle.definition.specs.Record.{alarmBytes}
-use Rattle.definition.specs.Steps.{updatedState, updatedBy}
+use Rattle.definition.specs.Steps.{updatedState, oneMore, updatedBy}
 use Rattle.model.specs.Meaning.{part, optPart, within, optWithin}
 use Rattle.changes.specs.declared.News.{News}
 
@@ -15,7 +15,7 @@ use Rattle.changes.specs.declared.News.{News}
 abbrev pub Turns : (Alarm → Alarm) → Bytes → Bytes → Type 0
 Turns f b c = (a : Alarm) → b ≡ alarmBytes a → c ≡ alarmBytes (f a)
 
--- ---- "severity, text, details replaced; updated_at late"
+-- ---- "severity, text, details replaced; updated_at late"; one more raise
 
 pub record NewsValue : Type 0 where
   pub time : ℕ
@@ -33,7 +33,7 @@ pub record NewsWithin (call : Bytes) (n : News) : Type 0 where
 abbrev pub updatedWith : NewsValue → Alarm → Alarm
 updatedWith n a =
     withSeverity (n .severity) (withText (n .text) (withDetails (n .details)
-    (withState (updatedState (a .state)) (withUpdated (late (n .time) (a .raisedAt)) a))))
+    (withState (updatedState (a .state)) (withUpdated (late (n .time) (a .raisedAt)) (withRaises (oneMore (a .raises)) a)))))
 
 abbrev pub newsIn : RaiseValue → NewsValue
 newsIn c = record { time = c .head .time; severity = c .head .severity; text = c .text; details = c .details }

@@ -11,7 +11,7 @@ ghost use lib.ListN.{length};
 ghost use Rattle.definition.specs.Limits.{textLimit, detailsLimit};
 ghost use Rattle.definition.specs.Book.{payloadWidth};
 ghost use Rattle.definition.specs.Record.{lastActive, alarmBytes, readAlarm};
-ghost use Rattle.definition.specs.Steps.{updatedState, clearedBy, actionState, actedOn, expiredBy};
+ghost use Rattle.definition.specs.Steps.{updatedState, oneMore, clearedBy, actionState, actedOn, expiredBy};
 ghost use Rattle.definition.specs.Alarm.{withText, withDetails};
 ghost use Rattle.model.specs.Meaning.{part, optPart, within, optWithin, actionOf};
 ghost use Rattle.history.specs.Meaning.{IsAlarm};
@@ -64,12 +64,25 @@ pub fn expired_by(p: &mut [u8], cutoff: u64)
     record::set_cleared(p, cutoff);
 }
 
-// ---- "Raise, key active": severity, text, details replaced, updated_at late, 0 and 1 become 1, 2 and 3 stay
+// ---- "Raise, key active": severity, text, details replaced, updated_at late, 0 and 1 become 1, 2 and 3 stay; one more raise
 
 fn updated_state(state: u8) -> u8
     ensures { λ r. ⌜ r ≡ updatedState state ⌝ }
 {
     if state <= 1 { 1 } else { state }
+}
+
+const MOST_RAISES: u32 = 4294967295;
+
+// Held at the most that the record has room for.
+fn one_more(raises: u32) -> u32
+    ensures { λ r. ⌜ r ≡ oneMore raises ⌝ }
+{
+    if raises < MOST_RAISES {
+        raises + 1
+    } else {
+        MOST_RAISES
+    }
 }
 
 fn put_details(p: &mut [u8], call: &[u8], s: Span)
@@ -112,10 +125,12 @@ pub fn updated_by(p: &mut [u8], call: &[u8], news: News)
 {
     let t = time::late(news.time, record::raised_at(p));
     let s = updated_state(record::state(p));
+    let n = one_more(record::raises(p));
     record::set_severity(p, news.severity);
     set_text(p, call, news.text);
     let details = news.details;
     set_details(p, call, details);
     record::set_state(p, s);
     record::set_updated(p, t);
+    record::set_raises(p, n);
 }

@@ -11,6 +11,6 @@ use Rattle.record.specs.Change.{Becomes}
 
 -- slot k; the last argument is `λ a. refl` for each field
 pub becomes :
-    (k : ℕ) (f : Alarm → Alarm) (v b c : Bytes) → k < 16 → length v ≡ getD alarmWidths k 0 → c ≡ splice b (offset alarmWidths k) v →
+    (k : ℕ) (f : Alarm → Alarm) (v b c : Bytes) → k < length alarmWidths → length v ≡ getD alarmWidths k 0 → c ≡ splice b (offset alarmWidths k) v →
     ((a : Alarm) → set (alarmPieces a) k v ≡ alarmPieces (f a)) → Becomes f (offset alarmWidths k) v b c
 becomes k f v b c h l e changed = record { bytes = e; alarm = slot-law k f v b c h l e changed }

@@ -13,7 +13,7 @@ ghost use lib.Dec.{T};
 ghost use lib.ListN.{length};
 ghost use Rattle.octets.specs.Bytes.{same, zeros, digits, splice};
 ghost use Rattle.definition.specs.Limits.{textLimit, detailsLimit};
-ghost use Rattle.definition.specs.Alarm.{sameMaybe, sameIdentity, withSeverity, withState, withUpdated, withCleared, withText, withDetails};
+ghost use Rattle.definition.specs.Alarm.{sameMaybe, sameIdentity, withSeverity, withState, withUpdated, withCleared, withText, withDetails, withRaises};
 ghost use Rattle.definition.specs.Book.{payloadWidth};
 ghost use Rattle.definition.specs.Slot.{stringBytes};
 ghost use Rattle.definition.specs.Record.{lastState, readAlarm, soundAlarm};
@@ -56,6 +56,13 @@ pub fn updated_at(p: &[u8]) -> u64
     ensures { λ r. ⌜ r ≡ readAlarm (now (p .entry)) .updatedAt ⌝ }
 {
     octets::get64(p, AlarmAt::UPDATED_AT)
+}
+
+pub fn raises(p: &[u8]) -> u32
+    requires { ⌜ length (now p) ≡ payloadWidth ⌝ }
+    ensures { λ r. ⌜ r ≡ readAlarm (now (p .entry)) .raises ⌝ }
+{
+    octets::get32(p, AlarmAt::RAISES)
 }
 
 // The string in a slot; all of its room where the length is above it.
@@ -202,4 +209,11 @@ pub fn no_details(p: &mut [u8])
     ensures { λ _. ⌜ Becomes (withDetails none) 932 (zeros 515) (now (p .entry)) (now (p .exit)) ⌝ }
 {
     octets::put_zeros(p, AlarmAt::DETAILS, Slot::OPTIONAL_DETAILS);
+}
+
+pub fn set_raises(p: &mut [u8], n: u32)
+    requires { ⌜ length (now p) ≡ payloadWidth ⌝ }
+    ensures { λ _. ⌜ Becomes (withRaises n) 1447 (digits 4 n) (now (p .entry)) (now (p .exit)) ⌝ }
+{
+    octets::put32(p, AlarmAt::RAISES, n);
 }

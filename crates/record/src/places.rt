@@ -17,6 +17,8 @@ impl Slot {
 
     pub const QUEUE: usize = 2;
 
+    pub const RAISES: usize = 4;
+
     pub const SHORT: usize = Self::LENGTH + Record::SHORT;
 
     pub const CAUSE: usize = Self::LENGTH + Record::CAUSE;
@@ -76,7 +78,9 @@ impl AlarmAt {
 
     pub const DETAILS: usize = Self::TEXT + Slot::TEXT;
 
-    pub const SPARE: usize = Self::DETAILS + Slot::OPTIONAL_DETAILS;
+    pub const RAISES: usize = Self::DETAILS + Slot::OPTIONAL_DETAILS;
+
+    pub const SPARE: usize = Self::RAISES + Slot::RAISES;
 }
 
 // Where the parts of an affected object start in its slot: behind its kind, the first string, the mark and the second string, and the queue.

@@ -1,16 +1,18 @@
 -- Each change of an alarm keeps its fields legal, and the events that steps make have legal fields. For the laws of steps, and for the code of
 -- these changes (`raising`, `state`, `expiry`, `history`, `build`).
-use Prim.Native.Nat.{ℕ, _≤_}
+use Prim.Native.Nat.{ℕ, _+_, _≤_}
+use mathlib.Core.Path.{_≡_, refl}
 use mathlib.Core.Option.{Option}
 use mathlib.Core.Bool.{Bool, true, false, cond}
 use native.Mathlib.Omega.{arith}
-use lib.Dec.{leb}
+use borrow.Author.Tests.{ltb-true}
+use lib.Dec.{leb, ltb}
 use Rattle.octets.specs.Bytes.{Bytes}
 use Rattle.definition.specs.Limits.{textLimit, detailsLimit}
 use Rattle.definition.specs.Value.{RaiseValue, PolicyValue, Action, acknowledging, suppressing}
 use Rattle.definition.specs.Alarm.{Alarm, changed, before, late}
-use Rattle.definition.specs.Steps.{updatedState, updatedBy, newAlarm, clearedBy, actionState, actionByte, actedOn, eventOf, expiredBy}
-use Rattle.definition.specs.Contracts.LegalFields.{Time, Maybe, BlobOf, TextOf, KeyOf, LegalAlarm, LegalEvent, LegalRaise, LegalPolicy}
+use Rattle.definition.specs.Steps.{updatedState, oneMore, updatedBy, newAlarm, clearedBy, actionState, actionByte, actedOn, eventOf, expiredBy}
+use Rattle.definition.specs.Contracts.LegalFields.{Time, Count, Maybe, BlobOf, TextOf, KeyOf, LegalAlarm, LegalEvent, LegalRaise, LegalPolicy}
 
 late-time : (t u : ℕ) → Time t → Time u → Time (late t u)
 unfolding late
@@ -24,9 +26,10 @@ late-time t u p q = go (before t u)
 
 -- legal values of the fields that steps change keep an alarm legal; the state may be of another chain
 pub changed-legal :
-    {top last v x u : ℕ} {s : Bytes} {d : Option Bytes} {c : Option ℕ} (a : Alarm) → LegalAlarm top a →
-    v ≤ 5 → TextOf textLimit s → Maybe (BlobOf detailsLimit) d → x ≤ last → Time u → Maybe Time c → LegalAlarm last (changed a v s d x u c)
-changed-legal a p severity text details state updated cleared = record {
+    {top last v x u n : ℕ} {s : Bytes} {d : Option Bytes} {c : Option ℕ} (a : Alarm) → LegalAlarm top a →
+    v ≤ 5 → TextOf textLimit s → Maybe (BlobOf detailsLimit) d → x ≤ last → Time u → Maybe Time c → Count n →
+    LegalAlarm last (changed a v s d x u c n)
+changed-legal a p severity text details state updated cleared raises = record {
   id = p .id;
   type = p .type;
   severity = severity;
@@ -38,10 +41,11 @@ changed-legal a p severity text details state updated cleared = record {
   updatedAt = updated;
   clearedAt = cleared;
   key = p .key;
+  raises = raises;
 }
 
 pub past : (a : Alarm) → LegalAlarm 3 a → LegalAlarm 5 a
-past a p = changed-legal a p (p .severity) (p .text) (p .details) (omega (arith, p .state)) (p .updatedAt) (p .clearedAt)
+past a p = changed-legal a p (p .severity) (p .text) (p .details) (omega (arith, p .state)) (p .updatedAt) (p .clearedAt) (p .raises)
 
 updatedState-active : (n : ℕ) → n ≤ 3 → updatedState n ≤ 3
 updatedState-active n h = go (leb n 1)
@@ -50,9 +54,18 @@ updatedState-active n h = go (leb n 1)
     go true = omega arith
     go false = h
 
+-- held: it stays a count, whatever was counted before
+oneMore-count : (n : ℕ) → Count (oneMore n)
+unfolding oneMore
+oneMore-count n = go (ltb n 4294967295) refl
+  where
+    go : (b : Bool) → ltb n 4294967295 ≡ b → Count (cond b (n + 1) 4294967295)
+    go true e = omega (arith, ltb-true n 4294967295 e)
+    go false e = omega arith
+
 pub updated-legal : (c : RaiseValue) (a : Alarm) → LegalRaise c → LegalAlarm 3 a → LegalAlarm 3 (updatedBy c a)
 unfolding updatedBy
-updated-legal c a r p = changed-legal a p (r .severity) (r .text) (r .details) (updatedState-active (a .state) (p .state)) (late-time (c .head .time) (a .raisedAt) (r .time) (p .raisedAt)) (p .clearedAt)
+updated-legal c a r p = changed-legal a p (r .severity) (r .text) (r .details) (updatedState-active (a .state) (p .state)) (late-time (c .head .time) (a .raisedAt) (r .time) (p .raisedAt)) (p .clearedAt) (oneMore-count (a .raises))
 
 pub new-legal : (c : RaiseValue) (k : Bytes) → LegalRaise c → KeyOf k → LegalAlarm 3 (newAlarm c k)
 unfolding newAlarm
@@ -68,13 +81,14 @@ new-legal c k r h = record {
   updatedAt = r .time;
   clearedAt = tt;
   key = h;
+  raises = omega arith;
 }
 
 pub cleared-legal : (t : ℕ) (a : Alarm) → Time t → LegalAlarm 3 a → LegalAlarm 5 (clearedBy t a)
 unfolding clearedBy
 cleared-legal t a h p =
     let l = late-time t (a .raisedAt) h (p .raisedAt) in
-    changed-legal a p (omega arith) (p .text) (p .details) (omega arith) l l
+    changed-legal a p (omega arith) (p .text) (p .details) (omega arith) l l (p .raises)
 
 actionState-active : (x : Action) → actionState x ≤ 3
 actionState-active acknowledging = omega arith
@@ -82,11 +96,11 @@ actionState-active suppressing = omega arith
 
 pub acted-legal : (x : Action) (t : ℕ) (a : Alarm) → Time t → LegalAlarm 3 a → LegalAlarm 3 (actedOn x t a)
 unfolding actedOn
-acted-legal x t a h p = changed-legal a p (p .severity) (p .text) (p .details) (actionState-active x) (late-time t (a .raisedAt) h (p .raisedAt)) (p .clearedAt)
+acted-legal x t a h p = changed-legal a p (p .severity) (p .text) (p .details) (actionState-active x) (late-time t (a .raisedAt) h (p .raisedAt)) (p .clearedAt) (p .raises)
 
 pub expired-legal : (t : ℕ) (a : Alarm) → Time t → LegalAlarm 3 a → LegalAlarm 5 (expiredBy t a)
 unfolding expiredBy
-expired-legal t a h p = changed-legal a p (p .severity) (p .text) (p .details) (omega arith) h h
+expired-legal t a h p = changed-legal a p (p .severity) (p .text) (p .details) (omega arith) h h (p .raises)
 
 actionByte-small : (x : Action) → actionByte x ≤ 1
 actionByte-small acknowledging = omega arith
