@@ -5,7 +5,7 @@ use Rattle.octets.specs.Bytes.{Bytes}
 use Rattle.definition.specs.Alarm.{late, withSeverity, withState, withUpdated, withCleared, withText, withDetails, withRaises}
 use Rattle.definition.specs.Record.{lastActive, alarmBytes, readAlarm}
 use Rattle.definition.specs.Value.{Action}
-use Rattle.definition.specs.Steps.{actionState, updatedState, oneMore, actedOn, clearedBy, expiredBy}
+use Rattle.definition.specs.Steps.{actionState, updatedState, oneMoreRaise, actedOn, clearedBy, expiredBy}
 use Rattle.history.specs.Meaning.{IsAlarm}
 use Rattle.history.specs.AlarmRecordLaws.{payload-bytes}
 use Rattle.changes.specs.Meaning.{Turns, NewsValue, updatedWith}
@@ -30,7 +30,7 @@ module _ (p : Bytes) (i : IsAlarm lastActive p) where
 
   pub updated :
       (n : NewsValue) (x t m : ℕ) (q r s u v w : Bytes) →
-      x ≡ updatedState (readAlarm p .state) → t ≡ late (n .time) (readAlarm p .raisedAt) → m ≡ oneMore (readAlarm p .raises) →
+      x ≡ updatedState (readAlarm p .state) → t ≡ late (n .time) (readAlarm p .raisedAt) → m ≡ oneMoreRaise (readAlarm p .raises) →
       Turns (withSeverity (n .severity)) p q → Turns (withText (n .text)) q r → Turns (withDetails (n .details)) r s → Turns (withState x) s u →
       Turns (withUpdated t) u v → Turns (withRaises m) v w →
       w ≡ alarmBytes (updatedWith n (readAlarm p))

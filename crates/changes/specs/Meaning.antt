@@ -7,7 +7,7 @@ use Rattle.definition.specs.Limits.{textLimit, detailsLimit}
 use Rattle.definition.specs.Value.{RaiseValue}
 use Rattle.definition.specs.Alarm.{Alarm, withSeverity, withText, withDetails, withState, withUpdated, withRaises, late}
 use Rattle.definition.specs.Record.{alarmBytes}
-use Rattle.definition.specs.Steps.{updatedState, oneMore, updatedBy}
+use Rattle.definition.specs.Steps.{updatedState, oneMoreRaise, updatedBy}
 use Rattle.model.specs.Meaning.{part, optPart, within, optWithin}
 use Rattle.changes.specs.declared.News.{News}
 
@@ -33,7 +33,7 @@ pub record NewsWithin (call : Bytes) (n : News) : Type 0 where
 abbrev pub updatedWith : NewsValue → Alarm → Alarm
 updatedWith n a =
     withSeverity (n .severity) (withText (n .text) (withDetails (n .details)
-    (withState (updatedState (a .state)) (withUpdated (late (n .time) (a .raisedAt)) (withRaises (oneMore (a .raises)) a)))))
+    (withState (updatedState (a .state)) (withUpdated (late (n .time) (a .raisedAt)) (withRaises (oneMoreRaise (a .raises)) a)))))
 
 abbrev pub newsIn : RaiseValue → NewsValue
 newsIn c = record { time = c .head .time; severity = c .head .severity; text = c .text; details = c .details }

@@ -11,7 +11,7 @@ ghost use lib.ListN.{length};
 ghost use Rattle.definition.specs.Limits.{textLimit, detailsLimit};
 ghost use Rattle.definition.specs.Book.{payloadWidth};
 ghost use Rattle.definition.specs.Record.{lastActive, alarmBytes, readAlarm};
-ghost use Rattle.definition.specs.Steps.{updatedState, oneMore, clearedBy, actionState, actedOn, expiredBy};
+ghost use Rattle.definition.specs.Steps.{updatedState, oneMoreRaise, clearedBy, actionState, actedOn, expiredBy};
 ghost use Rattle.definition.specs.Alarm.{withText, withDetails};
 ghost use Rattle.model.specs.Meaning.{part, optPart, within, optWithin, actionOf};
 ghost use Rattle.history.specs.Meaning.{IsAlarm};
@@ -75,8 +75,8 @@ fn updated_state(state: u8) -> u8
 const MOST_RAISES: u32 = 4294967295;
 
 // Held at the most that the record has room for.
-fn one_more(raises: u32) -> u32
-    ensures { λ r. ⌜ r ≡ oneMore raises ⌝ }
+fn one_more_raise(raises: u32) -> u32
+    ensures { λ r. ⌜ r ≡ oneMoreRaise raises ⌝ }
 {
     if raises < MOST_RAISES {
         raises + 1
@@ -125,7 +125,7 @@ pub fn updated_by(p: &mut [u8], call: &[u8], news: News)
 {
     let t = time::late(news.time, record::raised_at(p));
     let s = updated_state(record::state(p));
-    let n = one_more(record::raises(p));
+    let n = one_more_raise(record::raises(p));
     record::set_severity(p, news.severity);
     set_text(p, call, news.text);
     let details = news.details;

@@ -3,7 +3,7 @@ use borrow.Author.Needs.{needs}
 use mathlib.Core.Path.{_∙_, ap}
 use denote.Ref.{now}
 use Rattle.definition.specs.Alarm.{late}
-use Rattle.definition.specs.Steps.{updatedState, oneMore}
+use Rattle.definition.specs.Steps.{updatedState, oneMoreRaise}
 use Rattle.changes.specs.Meaning.{newsOf}
 use Rattle.changes.specs.ChangeLaws.{updated}
 use Rattle.changes.proofs.updated_by.Statement.{statement}
@@ -24,7 +24,7 @@ returns c =
     let s = r .before .before .before .before in
     updated _ (s .pre .0) (newsOf (now (s .args .call)) (s .args .news)) _ _ _ _ _ _ _ _ _
     (o .updated-state .ensures ∙ ap updatedState (o .before .state .ensures)) (l .late .ensures ∙ ap (late (s .args .news .time)) (r .raised-at .ensures))
-    (n .one-more .ensures ∙ ap oneMore (n .before .raises .ensures))
+    (n .one-more-raise .ensures ∙ ap oneMoreRaise (n .before .raises .ensures))
     (v .set-severity .ensures .alarm) (x .set-text .ensures) (d .set-details .ensures) (w .set-state .ensures .alarm) (u .set-updated .ensures .alarm)
     (m .set-raises .ensures .alarm)
 

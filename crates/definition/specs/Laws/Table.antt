@@ -1,5 +1,5 @@
--- The cases marked *, that each number is given, the balance of the smallest lists, what one wrong severity changes, and which alarms the headline
--- leaves aside, proved by computation of the definition. Nothing cites them.
+-- The cases marked *, that each number is given, the balance of the smallest lists, what one wrong severity changes, which alarms the headline
+-- leaves aside, and how raises are counted, proved by computation of the definition. Nothing cites them.
 pub mod Calls
 pub mod Shown
 pub mod Computed
@@ -11,4 +11,5 @@ pub mod RunMade
 pub mod YearlyBalance
 pub mod WrongSeverity
 pub mod Headline
+pub mod Raises
 pub mod TwinRaises

@@ -11,7 +11,7 @@ use Rattle.octets.specs.Bytes.{Bytes}
 use Rattle.definition.specs.Limits.{textLimit, detailsLimit}
 use Rattle.definition.specs.Value.{RaiseValue, PolicyValue, Action, acknowledging, suppressing}
 use Rattle.definition.specs.Alarm.{Alarm, changed, before, late}
-use Rattle.definition.specs.Steps.{updatedState, oneMore, updatedBy, newAlarm, clearedBy, actionState, actionByte, actedOn, eventOf, expiredBy}
+use Rattle.definition.specs.Steps.{updatedState, oneMoreRaise, updatedBy, newAlarm, clearedBy, actionState, actionByte, actedOn, eventOf, expiredBy}
 use Rattle.definition.specs.Contracts.LegalFields.{Time, Count, Maybe, BlobOf, TextOf, KeyOf, LegalAlarm, LegalEvent, LegalRaise, LegalPolicy}
 
 late-time : (t u : ℕ) → Time t → Time u → Time (late t u)
@@ -55,9 +55,9 @@ updatedState-active n h = go (leb n 1)
     go false = h
 
 -- held: it stays a count, whatever was counted before
-oneMore-count : (n : ℕ) → Count (oneMore n)
-unfolding oneMore
-oneMore-count n = go (ltb n 4294967295) refl
+oneMoreRaise-count : (n : ℕ) → Count (oneMoreRaise n)
+unfolding oneMoreRaise
+oneMoreRaise-count n = go (ltb n 4294967295) refl
   where
     go : (b : Bool) → ltb n 4294967295 ≡ b → Count (cond b (n + 1) 4294967295)
     go true e = omega (arith, ltb-true n 4294967295 e)
@@ -65,7 +65,7 @@ oneMore-count n = go (ltb n 4294967295) refl
 
 pub updated-legal : (c : RaiseValue) (a : Alarm) → LegalRaise c → LegalAlarm 3 a → LegalAlarm 3 (updatedBy c a)
 unfolding updatedBy
-updated-legal c a r p = changed-legal a p (r .severity) (r .text) (r .details) (updatedState-active (a .state) (p .state)) (late-time (c .head .time) (a .raisedAt) (r .time) (p .raisedAt)) (p .clearedAt) (oneMore-count (a .raises))
+updated-legal c a r p = changed-legal a p (r .severity) (r .text) (r .details) (updatedState-active (a .state) (p .state)) (late-time (c .head .time) (a .raisedAt) (r .time) (p .raisedAt)) (p .clearedAt) (oneMoreRaise-count (a .raises))
 
 pub new-legal : (c : RaiseValue) (k : Bytes) → LegalRaise c → KeyOf k → LegalAlarm 3 (newAlarm c k)
 unfolding newAlarm

@@ -19,7 +19,7 @@ use Rattle.definition.specs.Record.{alarmBytes, eventBytes}
 use Rattle.definition.specs.Book.{recordIn, be32s, header, recordAt, bookBytes}
 use Rattle.definition.specs.Station.{Station, Step, _>>=_, forEach, addActive, addHistory, addAudit, freeActive, freeOldestHistory, changeActive, changeHistory, countSuccess, countFailure}
 use Rattle.definition.specs.Answer.{Answer, answerBytes}
-use Rattle.definition.specs.Steps.{makeRoom, extendHistory, historyAfter, intoHistory, change, retire, updatedBy, newAlarm, store, storeNew, raiseAt, clearedBy, clearAt, actedOn, act, plainAt, plain, eventStored, eventLost, attempt, eventOf, deny, allow, needsOverride, policyAt, policy, expiredBy, expire, raise, clear}
+use Rattle.definition.specs.Steps.{makeRoom, extendHistory, historyAfter, intoHistory, change, retire, oneMoreRaise, updatedBy, newAlarm, store, storeNew, raiseAt, clearedBy, clearAt, actedOn, act, plainAt, plain, eventStored, eventLost, attempt, eventOf, deny, allow, needsOverride, policyAt, policy, expiredBy, expire, raise, clear}
 use Rattle.definition.specs.Perform.{inRecord, inLength, perform}
 use Rattle.definition.specs.Sound.{bookOf, encode}
 
@@ -35,7 +35,7 @@ parsed c = parseCall c
 
 -- a step and its answer's bytes; keys, and operations 8 to 12, are not opened
 unfoldable pub performed : CallValue → ℕ → Step Answer
-unfolding perform inRecord inLength _>>=_ raise clear raiseAt clearAt change retire store storeNew intoHistory historyAfter extendHistory makeRoom forEach addActive addHistory addAudit freeActive freeOldestHistory changeActive changeHistory countSuccess countFailure those first newest without replaced before late same sameIdentity sameKey sameNames parts updatedBy newAlarm clearedBy actedOn act plainAt plain eventStored eventLost attempt eventOf deny allow isCritical needsOverride policyAt policy expiredBy expire answerBytes
+unfolding perform inRecord inLength _>>=_ raise clear raiseAt clearAt change retire store storeNew intoHistory historyAfter extendHistory makeRoom forEach addActive addHistory addAudit freeActive freeOldestHistory changeActive changeHistory countSuccess countFailure those first newest without replaced before late same sameIdentity sameKey sameNames parts oneMoreRaise updatedBy newAlarm clearedBy actedOn act plainAt plain eventStored eventLost attempt eventOf deny allow isCritical needsOverride policyAt policy expiredBy expire answerBytes
 performed c n = perform c n
 
 -- a station's bytes

@@ -1,11 +1,11 @@
 -- What the table shows: of calls on the fresh register with A=2, H=3, E=1, what each returned and answered, and bytes of the register that
--- they leave, at the offsets of docs/LAYOUT.md. For the rows of Marked, for EachNumber, YearlyBalance, WrongSeverity and Headline.
+-- they leave, at the offsets of docs/LAYOUT.md. For the rows of Marked, for EachNumber, YearlyBalance, WrongSeverity, Headline and Raises.
 use Prim.Native.Nat.{ℕ, zero, suc, _+_, _*_}
 use mathlib.Core.Path.{_≡_}
 use mathlib.Core.List.{List, [], _∷_, map}
 use mathlib.Core.Option.{Option, none, some}
 use lib.ListN.{take, drop}
-use Rattle.octets.specs.Bytes.{Bytes, numberAt, at32}
+use Rattle.octets.specs.Bytes.{Bytes, value, numberAt, at32}
 use Rattle.definition.specs.Value.{RaiseValue, CallValue}
 use Rattle.definition.specs.Key.{fed}
 use Rattle.definition.specs.Parse.{parseCall}
@@ -67,7 +67,7 @@ lastCount q = numberAt 4 (lastAnswer q) 4
 
 -- ---- the register that calls leave
 
-abbrev leftFrom : Bytes → List Reply → Bytes
+abbrev pub leftFrom : Bytes → List Reply → Bytes
 leftFrom b [] = b
 leftFrom b (r ∷ q) = leftFrom (r .register) q
 
@@ -100,6 +100,10 @@ historyStates b = ofChain 20 21 1 b
 
 abbrev pub historyCleared : Bytes → List Bytes
 historyCleared b = ofChain 20 38 9 b
+
+-- raises 1451 to 1454, on the active chain and in history
+abbrev pub raisesOn : Bytes → List ℕ × List ℕ
+raisesOn b = (map value (ofChain 12 1451 4 b), map value (ofChain 20 1451 4 b))
 
 -- in the header audit_length 32, successes 44, failures 52
 abbrev pub audited : Bytes → ℕ × ℕ × ℕ

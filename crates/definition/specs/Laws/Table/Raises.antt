@@ -1,0 +1,139 @@
+-- M-100: the raises in the records that the smallest lists leave, by computation: which calls count, and that history has them as they were.
+use Prim.Native.Nat.{ℕ}
+use mathlib.Core.Path.{_≡_, refl}
+use mathlib.Core.List.{List, [], _∷_, map}
+use native.Mathlib.Omega.{arith}
+use lib.Dec.{T}
+use Rattle.octets.specs.Bytes.{Bytes, numberAt, be32, digits, splice}
+use Rattle.definition.specs.Parse.{parseCall}
+use Rattle.definition.specs.Chain.{Entry, replaced}
+use Rattle.definition.specs.Alarm.{Alarm, withRaises}
+use Rattle.definition.specs.Slot.{join}
+use Rattle.definition.specs.Station.{Station, fresh, withActive, changeActive}
+use Rattle.definition.specs.Perform.{perform}
+use Rattle.definition.specs.Sound.{encode}
+use Rattle.definition.specs.Lists.{Reply, run}
+use Rattle.definition.specs.Contracts.LegalFields.{Count, Each, LegalAlarm}
+use Rattle.definition.specs.Contracts.LegalStation.{LegalStation}
+use Rattle.definition.specs.Laws.Steps.ChangedLegal.{changed-legal}
+use Rattle.definition.specs.Laws.Steps.LegalMoves.{ended, changeActive-legal}
+use Rattle.definition.specs.Laws.Steps.StationBook.{fresh-legalStation}
+use Rattle.definition.specs.Laws.Twins.KeptLegal.{call-kept, stationAfter, legal-after}
+use Rattle.definition.specs.Laws.Table.Calls.{raise, clear, acknowledge, suppress, expire}
+use Rattle.definition.specs.Laws.Table.Shown.{ample, repliesTo, leftFrom, left, raisesOn}
+use Rattle.definition.specs.Laws.Table.Stations.{areOctets, octets, allOctets, replies, run-legal, computed, by-stations}
+
+abbrev leaves : List Reply → List ℕ × List ℕ
+leaves q = raisesOn (left q)
+
+-- the raises in the records that calls leave: of the active chain, and of history
+unfoldable pub raisesBehind : List Bytes → List ℕ × List ℕ
+raisesBehind l = leaves (repliesTo l)
+
+-- of a raise of `a` once and again
+abbrev once : Bytes
+once = raise 0 "a" "a"
+
+pub record Counted : Type 0 where
+  -- "1 when raised", "copied to history"
+  pub raised : raisesBehind (once ∷ []) ≡ (1 ∷ [], 1 ∷ [])
+  -- "one more at each answer Updated": history has the changed alarm, and its first entry stays
+  pub updated : raisesBehind (once ∷ once ∷ []) ≡ (2 ∷ [], 1 ∷ 2 ∷ [])
+  -- "no part of history's sameness test": the entry of the second raise is overwritten by the third, and has its raises
+  pub overwritten : raisesBehind (once ∷ once ∷ once ∷ []) ≡ (3 ∷ [], 1 ∷ 3 ∷ [])
+  -- at the limit of two a third key counts nothing
+  pub exceeded : raisesBehind (once ∷ raise 0 "b" "b" ∷ raise 0 "c" "c" ∷ []) ≡ (1 ∷ 1 ∷ [], 1 ∷ 1 ∷ [])
+  -- nor does one that is refused for its id: 31
+  pub refused : raisesBehind (once ∷ raise 0 "a" "b" ∷ []) ≡ (1 ∷ [], 1 ∷ [])
+  -- an action counts nothing
+  pub acted : raisesBehind (once ∷ acknowledge "a" 1 ∷ suppress "a" 1 ∷ []) ≡ (1 ∷ [], 1 ∷ 1 ∷ 1 ∷ [])
+  -- Updated is an answer: where the state stays 2 or 3 it counts too, and the entry of the action is overwritten
+  pub acknowledged : raisesBehind (once ∷ acknowledge "a" 1 ∷ once ∷ []) ≡ (2 ∷ [], 1 ∷ 2 ∷ [])
+  pub suppressed : raisesBehind (once ∷ suppress "a" 1 ∷ once ∷ []) ≡ (2 ∷ [], 1 ∷ 2 ∷ [])
+  -- a clear and an expiry keep the raises
+  pub cleared : raisesBehind (once ∷ once ∷ clear 1 "a" ∷ []) ≡ ([], 1 ∷ 2 ∷ 2 ∷ [])
+  pub expired : raisesBehind (once ∷ once ∷ expire 1 ∷ []) ≡ ([], 1 ∷ 2 ∷ 2 ∷ [])
+  -- raised anew it starts at 1; the oldest of three entries goes
+  pub anew : raisesBehind (once ∷ once ∷ clear 1 "a" ∷ once ∷ []) ≡ (1 ∷ [], 2 ∷ 2 ∷ 1 ∷ [])
+
+-- ---- a register in which record 1 holds another number: that which `once` leaves, with n at byte 1451 of the record
+
+abbrev given : ℕ → Bytes
+given n = splice (left (repliesTo (once ∷ []))) 2987 (be32 n)
+
+-- the number there when `a` is raised once more
+unfoldable pub againAt : ℕ → ℕ
+againAt n = numberAt 4 (leftFrom (given n) (run (ample once ∷ []) (given n))) 2987
+
+pub record Held : Type 0 where
+  -- "older records hold 0": one more is 1
+  pub older : againAt 0 ≡ 1
+  -- "held at 4,294,967,295": it is reached, and stays
+  pub reached : againAt 4294967294 ≡ 4294967295
+  pub stays : againAt 4294967295 ≡ 4294967295
+
+computes : (l : List Bytes) {x : List ℕ × List ℕ} → T (allOctets (map ample l)) → leaves (computed (map ample l)) ≡ x → raisesBehind l ≡ x
+unfolding raisesBehind
+computes l = by-stations leaves l
+
+pub counted : Counted
+unfolding allOctets computed
+counted =
+    record {
+      raised = computes _ tt refl;
+      updated = computes _ tt refl;
+      overwritten = computes _ tt refl;
+      exceeded = computes _ tt refl;
+      refused = computes _ tt refl;
+      acted = computes _ tt refl;
+      acknowledged = computes _ tt refl;
+      suppressed = computes _ tt refl;
+      cleared = computes _ tt refl;
+      expired = computes _ tt refl;
+      anew = computes _ tt refl;
+    }
+
+-- ---- the register given is a legal station's
+
+-- the first of some active alarms with other raises
+unfoldable recounted : ℕ → List (Entry Alarm) → Station → Station
+recounted n [] s = s
+recounted n (e ∷ c) s = withActive (replaced (e .index) (withRaises n (e .content)) (s .active)) (s .free) s
+
+recounted-legal : (n : ℕ) → Count n → (c : List (Entry Alarm)) → Each (LegalAlarm 3) c → (s : Station) → LegalStation s → LegalStation (recounted n c s)
+unfolding recounted changeActive
+recounted-legal n k [] h s l = l
+recounted-legal n k (e ∷ c) h s l =
+    let p = h .0 in
+    ended (changeActive-legal s l (e .index) (withRaises n (e .content))
+    (changed-legal (e .content) p (p .severity) (p .text) (p .details) (p .state) (p .updatedAt) (p .clearedAt) k))
+
+-- that behind `once`
+unfoldable behind : Station
+behind = stationAfter (fresh 2 3 1) (perform (parseCall once) 65536 (fresh 2 3 1))
+
+behind-legal : LegalStation behind
+unfolding behind areOctets join digits
+behind-legal =
+    let l = fresh-legalStation 2 3 1 (omega arith) (omega arith) (omega arith) in
+    legal-after l (call-kept once 65536 (fresh 2 3 1) (octets once tt) l)
+
+abbrev forged : ℕ → Station
+forged n = recounted n (behind .active) behind
+
+again : (n : ℕ) {m : ℕ} → Count n → given n ≡ encode (forged n) → numberAt 4 (leftFrom (encode (forged n)) (replies (forged n) (ample once ∷ []))) 2987 ≡ m → againAt n ≡ m
+unfolding againAt allOctets join digits
+again n k e h =
+    let l = recounted-legal n k (behind .active) (behind-legal .fields .active) behind behind-legal in
+    rw (e, run-legal (ample once ∷ []) (forged n) l tt) h
+
+pub held : Held
+unfolding allOctets computed behind recounted splice
+held =
+    let is : (n : ℕ) → splice (left (computed (ample once ∷ []))) 2987 (be32 n) ≡ encode (forged n) → given n ≡ encode (forged n) =
+    λ n e. by-stations (λ (q : List Reply). splice (left q) 2987 (be32 n)) (once ∷ []) tt e in
+    record {
+      older = again 0 (omega arith) (is 0 refl) refl;
+      reached = again 4294967294 (omega arith) (is 4294967294 refl) refl;
+      stays = again 4294967295 (omega arith) (is 4294967295 refl) refl;
+    }
