@@ -22,8 +22,8 @@ and the summary. The page leaves out types, scopes, details and keys; --json and
   --csv          the table of --only as CSV
   -o REGISTER    also writes the register's bytes to a file, for `station check`
 
-The column `times` of active alarms is how often each was raised, and of history
-how often it had been at that change; 1 is an alarm that was raised once.
+The column `times` tells how often an alarm was raised: of active alarms until now,
+in history until that change.
 
 In the summary worst severity and readiness are of the active alarms that are not
 suppressed; how many are suppressed stands below the number of active ones.
