@@ -32,7 +32,8 @@ CALLS = [
 ]
 # After so many of the calls: `times` of active alarms and of history, and the figures of raises at the end.
 AFTER = {
-    9: ([5, 1], [3, 1, 4, 5], {"raises at end": 6, "most raises at end": 5, "raises at end critical lease-lost": 5, "raises at end major other:x.y": 1}),
+    9: ([5, 1], [3, 1, 4, 5], {"raises at end": 6, "most raises at end": 5, "raises at end critical lease-lost": 5,
+                               "raises at end major other:x.y": 1}),
     14: ([1], [2, 5, 1, 2], {"raises at end": 1, "most raises at end": 1, "raises at end minor lease-lost": 1}),
     15: ([], [5, 1, 2, 1], {"raises at end": 0, "most raises at end": 0}),
 }
@@ -96,8 +97,8 @@ def reports(_root):
     """A report from before raises were counted differs in them alone, and with --partial in nothing; one may have no sum of a severity alone."""
     lines = (HERE / "examples/day.csv").read_text(encoding="utf-8").splitlines(keepends=True)
     before = saved("before.csv", "".join(line for line in lines if "raises at end" not in line))
-    differing = {row["figure"]: int(row["difference"]) for row in json.loads(works("recount", DAY, "--against", before, "--json", status=1))["figures"]
-                 if row["difference"] is not None}
+    compared = json.loads(works("recount", DAY, "--against", before, "--json", status=1))["figures"]
+    differing = {row["figure"]: int(row["difference"]) for row in compared if row["difference"] is not None}
     if differing != {name: -value for name, value in figures(DAY).items()} or len(differing) != 4:
         yield f"a report from before differs in {differing}"
     works("recount", DAY, "--against", before, "--partial")
