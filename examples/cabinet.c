@@ -1,5 +1,5 @@
 /*
- * A cabinet's program in C: opens a register, raises an alarm, asks for the summary, and is refused once.
+ * A cabinet's program in C: opens a register, raises an alarm twice, asks for the summary, and is refused once.
  *
  *     gcc -Iinclude examples/cabinet.c target/staticlib/libstation.a -o cabinet
  */
@@ -71,7 +71,12 @@ int main(void)
     printf("raise: %u, code %u, %u bytes, severity %u\n", (unsigned)number, (unsigned)answer[ALARM_HEAD_CODE], (unsigned)length,
            (unsigned)answer[ALARM_HEAD_WIDTH + ALARM_RECORD_SEVERITY]);
 
-    put_trip(&call, 1773483463u, "drive tripped");
+    put_trip(&call, 1773483463u, "other:ropeway.drive-trip");
+    number = alarm_step(reg, sizeof reg, call.bytes, call.length, answer, sizeof answer, &length);
+    printf("again: %u, code %u, raised %lu times\n", (unsigned)number, (unsigned)answer[ALARM_HEAD_CODE],
+           (unsigned long)alarm_record_raises(answer + ALARM_HEAD_WIDTH));
+
+    put_trip(&call, 1773483464u, "drive tripped");
     number = alarm_step(reg, sizeof reg, call.bytes, call.length, answer, sizeof answer, &length);
     printf("a cause that is none: %s\n", number == ALARM_REFUSED_CAUSE ? "refused with 28" : "taken");
 

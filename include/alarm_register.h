@@ -1,5 +1,6 @@
 /*
- * The station alarm register: its two functions, and the numbers that calls, answers and registers are made of.
+ * The station alarm register: its two functions, the numbers that calls, answers and registers are made of, and a reader
+ * of an alarm's raises.
  *
  * Everything is bytes that the caller lends. A register is 1,536 bytes for each record; a call goes in as bytes, an
  * answer comes out as bytes. Numbers in them are unsigned and big-endian; a time is a signed count of nanoseconds from
@@ -196,7 +197,8 @@ uint32_t alarm_step(uint8_t *reg, size_t reg_len, const uint8_t *call, size_t ca
 
 /*
  * Offsets in a record that holds an alarm, in a register or an answer. Bytes 0 to 3 are the next index, zero in an
- * answer. A length is a u16 before the string's room; a byte PRESENT is 0 or 1; times are 8 bytes, the key 16.
+ * answer. A length is a u16 before the string's room; a byte PRESENT is 0 or 1; times are 8 bytes, the key 16. RAISES is
+ * a u32: alarm_record_raises reads it.
  */
 #define ALARM_RECORD_KEY                       4u
 #define ALARM_RECORD_SEVERITY                  20u
@@ -232,6 +234,7 @@ uint32_t alarm_step(uint8_t *reg, size_t reg_len, const uint8_t *call, size_t ca
 #define ALARM_RECORD_DETAILS_PRESENT           936u
 #define ALARM_RECORD_DETAILS_LENGTH            937u
 #define ALARM_RECORD_DETAILS                   939u
+#define ALARM_RECORD_RAISES                    1451u
 
 /* Offsets in a record that holds an audit event. */
 #define ALARM_EVENT_ACTION                     4u
@@ -256,6 +259,21 @@ uint32_t alarm_step(uint8_t *reg, size_t reg_len, const uint8_t *call, size_t ca
 #define ALARM_EVENT_CORRELATION_PRESENT        702u
 #define ALARM_EVENT_CORRELATION_LENGTH         703u
 #define ALARM_EVENT_CORRELATION                705u
+
+/*
+ * How often an alarm was raised: 1 when it was raised, and one more at each raise since then that was folded into it
+ * (ALARM_CODE_UPDATED). It is held at the largest number, 4,294,967,295. What else happens to an alarm leaves it as it is;
+ * an alarm that has ended and is raised anew has 1 again. 0 means a record from before raises were counted: they are
+ * counted from its next raise on.
+ *
+ * record[0..ALARM_RECORD_WIDTH] is the record of an alarm, active or in history, in a register or in an answer behind its
+ * head.
+ */
+static inline uint32_t alarm_record_raises(const uint8_t *record)
+{
+    const uint8_t *raises = record + ALARM_RECORD_RAISES;
+    return (uint32_t)raises[0] << 24 | (uint32_t)raises[1] << 16 | (uint32_t)raises[2] << 8 | (uint32_t)raises[3];
+}
 
 #ifdef __cplusplus
 }

@@ -73,12 +73,18 @@ DAMAGES = {
     (header, "offsets are the layout's"): [
         ("an offset in layout.json", JSON, r'"queue": 411', '"queue": 410'),
         ("an offset in the header", HEADER, r"(ALARM_EVENT_REASON +)379u", r"\g<1>378u"),
+        ("the offset of the raises", HEADER, r"(ALARM_RECORD_RAISES +)1451u", r"\g<1>1450u"),
         ("a constant left out", HEADER, r"^#define ALARM_RECORD_KEY .*\n", ""),
         ("a constant too many", HEADER, r"^#define ALARM_RECORD_KEY .*\n", r"\g<0>#define ALARM_RECORD_COLOUR 5u\n"),
     ],
     (header, "limits of strings are the layout's"): [
         ("a limit", HEADER, r"(ALARM_LONGEST_CAUSE +)96u", r"\g<1>64u"),
         ("a room on the page", PAGE, r"\| region \| 550 \| 128 \|", "| region | 550 | 64 |"),
+    ],
+    (header, "raises are read"): [
+        ("the offset of the raises", HEADER, r"(ALARM_RECORD_RAISES +)1451u", r"\g<1>1452u"),
+        ("two bytes exchanged", HEADER, r"raises\[1\] << 16 \| \(uint32_t\)raises\[2\]", "raises[2] << 16 | (uint32_t)raises[1]"),
+        ("a reader that warns where it is not used", HEADER, r"^static inline (uint32_t alarm_record_raises)", r"static \1"),
     ],
     (header, "numbers are those of docs/NUMBERS.md"): [
         ("a number on the page", TABLE, r"^\| 31 ", "| 32 "),

@@ -1,5 +1,5 @@
 #!/usr/bin/env python3
-"""The C header: its constants are the layout's, its refusals those of the table of numbers; a cabinet's program compiles as C and C++ and runs."""
+"""The C header: its constants are the layout's, its refusals those of the table of numbers; programs with it compile as C and C++ and run."""
 import json
 import pathlib
 import re
@@ -15,6 +15,23 @@ from numbering import HEADER
 PROGRAM, PRINTED = "examples/cabinet.c", "examples/cabinet.out"
 LIBRARY = "target/staticlib/libstation.a"
 WARNINGS = ["-Wall", "-Wextra", "-Werror", "-pedantic"]
+C, CPP = ("gcc", "-x", "c", "-std=c99"), ("g++", "-x", "c++", "-std=c++11")
+# Programs that need no library: one uses nothing of the header, one reads raises of which all four bytes differ.
+NOTHING = '#include "alarm_register.h"\n\nint main(void)\n{\n    return 0;\n}\n'
+RAISES = r"""#include <stdio.h>
+#include "alarm_register.h"
+
+int main(void)
+{
+    uint8_t record[ALARM_RECORD_WIDTH] = {0};
+    record[1451] = 0xf2;
+    record[1452] = 0x34;
+    record[1453] = 0x56;
+    record[1454] = 0x78;
+    printf("%lx\n", (unsigned long)alarm_record_raises(record));
+    return 0;
+}
+"""
 
 # The header's limits of strings, and the fields of docs/LAYOUT.md that have these rooms. A denial is in no record.
 LONGEST = {
@@ -96,32 +113,46 @@ def numbers(root):
     yield from (f"{numbering.PAGE} has {number}, which was removed" for number in numbering.removed(root) if number in [row.number for row in rows])
 
 
-def compiled(compiler, language):
-    """A check: the program compiles without a warning, runs, and prints what it should."""
+def compiled(root, compiler, program, printed, *libraries):
+    """The faults of a program that should compile without a warning, run, and print this."""
+    if not shutil.which(compiler[0]):
+        raise Skip(f"{compiler[0]} is not on this machine")
+    with tempfile.TemporaryDirectory() as folder:
+        file = pathlib.Path(folder) / "program"
+        words = [*compiler, *WARNINGS, f"-I{root / 'include'}", "-", "-x", "none", *libraries, "-o", file]
+        done = subprocess.run(words, input=program, stdout=subprocess.PIPE, stderr=subprocess.STDOUT, text=True)
+        if done.returncode:
+            yield from done.stdout.splitlines()[:10] or [f"{compiler[0]}: exit status {done.returncode}"]
+            return
+        done = subprocess.run([file], stdout=subprocess.PIPE, text=True)
+        if done.returncode or done.stdout != printed:
+            yield f"it ends with {done.returncode} and prints {done.stdout!r}"
+
+
+def cabinet(compiler):
+    """A check: a cabinet's program prints what it should."""
     def go(root):
-        if not shutil.which(compiler):
-            raise Skip(f"{compiler} is not on this machine")
         if not (root / LIBRARY).exists():
             raise Skip(f"{LIBRARY} is not built; `make lib` builds it")
-        with tempfile.TemporaryDirectory() as folder:
-            program = pathlib.Path(folder) / "cabinet"
-            words = [compiler, *language, *WARNINGS, f"-I{root / 'include'}", root / PROGRAM, "-x", "none", root / LIBRARY, "-o", program]
-            done = subprocess.run(words, stdout=subprocess.PIPE, stderr=subprocess.STDOUT, text=True)
-            if done.returncode:
-                yield from done.stdout.splitlines()[:10] or [f"{compiler}: exit status {done.returncode}"]
-                return
-            done = subprocess.run([program], stdout=subprocess.PIPE, text=True)
-            if done.returncode or done.stdout != (root / PRINTED).read_text(encoding="utf-8"):
-                yield f"it ends with {done.returncode} and prints {done.stdout!r}"
+        program, printed = ((root / path).read_text(encoding="utf-8") for path in (PROGRAM, PRINTED))
+        yield from compiled(root, compiler, program, printed, root / LIBRARY)
     return go
+
+
+def raises(root):
+    """Raises are read from their four bytes, in C and in C++; a program that does not read them compiles too."""
+    for compiler in (C, CPP):
+        yield from compiled(root, compiler, NOTHING, "")
+        yield from compiled(root, compiler, RAISES, "f2345678\n")
 
 
 CHECKS = {
     "offsets are the layout's": layout,
     "limits of strings are the layout's": longest,
     "numbers are those of docs/NUMBERS.md": numbers,
-    "a cabinet's program in C": compiled("gcc", ["-std=c99"]),
-    "the same program in C++": compiled("g++", ["-x", "c++", "-std=c++11"]),
+    "raises are read": raises,
+    "a cabinet's program in C": cabinet(C),
+    "the same program in C++": cabinet(CPP),
 }
 
 if __name__ == "__main__":

@@ -150,6 +150,7 @@ def history(_root):
     calls = listed(*(RAISE(minute, "a", severity, "a") for minute, severity in enumerate(("minor", "major", "minor"))))
     got = reached(calls, 2, "minor")
     yield from expected(got, "history entries at end", 3, 2, "")
+    yield from expected(got, "raises at end minor lease-lost", 3, 3, "")
     yield from expected(got, "active at end major", 0, 0, "at most 1")
     yield from bounds_at_end(got, True)
     out = " ".join(works("reach", calls, "--at", 2, "--severity", "minor").decode().split())
@@ -164,7 +165,8 @@ def policies(_root):
     """An answered policy call behind the raise ends every bound; a refused one does not, nor does one before the raise."""
     critical, refused = RAISE(0, "a", "critical", "a"), raw(POLICY, -5, 2)
     got = reached(listed(critical, POLICY, EXPIRE), 1, "minor")
-    yield from expected(got, "active at end", 0, 1, "")
+    for name in ("active at end", "raises at end", "most raises at end", "raises at end minor lease-lost"):
+        yield from expected(got, name, 0, 1, "")
     yield from bounds_at_end(got, False)
     if (got["unbounded_from_call"], got["last_differing_call"]) != (2, 3):
         yield f"bounds end with call {got['unbounded_from_call']}, and counts differ last after call {got['last_differing_call']}"

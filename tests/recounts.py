@@ -18,10 +18,10 @@ def recounted(_root):
     out = works("recount", "target/desk/month.calls", "--against", "examples/second-case/report.csv", status=1).decode()
     if out != (HERE / "examples/second-case/recount").read_text(encoding="utf-8"):
         yield "examples/second-case/recount is not what `station recount` prints"
-    if b"Equal: the 39 figures of examples/day.csv" not in works("recount", DAY, "--against", "examples/day.csv"):
+    if b"Equal: the 43 figures of examples/day.csv" not in works("recount", DAY, "--against", "examples/day.csv"):
         yield "the day's report is not equal to its calls"
     true = works("recount", MONTH, "--csv").decode()
-    if b"Equal: the 26 figures" not in works("recount", MONTH, "--against", saved("true.csv", true)):
+    if b"Equal: the 29 figures" not in works("recount", MONTH, "--against", saved("true.csv", true)):
         yield "a list's own figures are not equal to it"
     works("recount", MONTH, "--against", saved("semicolons.csv", true.replace(",", ";")))
     spoilt = json.loads(works("recount", MONTH, "--against", saved("spoilt.csv", true.replace("updated,3324", "updated,3325")), "--json", status=1))

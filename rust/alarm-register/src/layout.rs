@@ -107,6 +107,8 @@ pub mod alarm {
     pub const TEXT: StringSlot = slot("text", 678, longest::TEXT);
     /// The details, optional, any bytes.
     pub const DETAILS: StringSlot = slot("details", 937, longest::DETAILS);
+    /// How often it was raised, a u32; any value is sound.
+    pub const RAISES: usize = 1451;
     /// Text and details with their lengths and the option's byte: what twins may differ in.
     pub const TEXTS: core::ops::Range<usize> = 678..1451;
 }

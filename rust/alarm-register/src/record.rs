@@ -39,6 +39,25 @@ impl fmt::Display for Key {
 }
 
 /// An alarm as a record holds it.
+///
+/// What is raised while it is active is folded into it, and counted in `raises`: a switch that chatters is told from one that
+/// closed a single time.
+///
+/// ```
+/// use alarm_register::{Limits, Object, Raise, RaiseAnswer, Register, Severity, Time, ANSWER_ROOM};
+///
+/// let limits = Limits { active: 4, history: 8, audit: 2 };
+/// let mut bytes = vec![0; limits.register_length()];
+/// let mut answer = [0; ANSWER_ROOM];
+/// let mut register = Register::open(&mut bytes, limits)?;
+///
+/// let switch = Object::Interface { nf: "tower-3", name: "rope-switch" };
+/// let off = Raise::new(Time(0), "A-1", "line.rope", Severity::Major, "other:ropeway.rope-position", switch);
+/// register.perform(&off, &mut answer)?;
+/// let RaiseAnswer::Updated(alarm) = register.perform(&off, &mut answer)? else { panic!("it is active") };
+/// assert_eq!(alarm.raises, 2);
+/// # Ok::<(), alarm_register::Refusal>(())
+/// ```
 #[derive(Clone, Copy, Debug, PartialEq, Eq)]
 pub struct Alarm<'a> {
     /// The key.
@@ -71,6 +90,10 @@ pub struct Alarm<'a> {
     pub text: &'a str,
     /// The details, any bytes.
     pub details: Option<&'a [u8]>,
+    /// How often it was raised: 1 when it was raised, and one more at each answer Updated since, held at [`u32::MAX`]. What else
+    /// happens to it leaves the count; an alarm that has ended and is raised anew has 1 again. 0 in a record from before raises
+    /// were counted: they are counted from its next raise on.
+    pub raises: u32,
 }
 
 /// An attempt to acknowledge or suppress with policy, as a record holds it.
@@ -185,6 +208,7 @@ impl<'a> Alarm<'a> {
             region: record.option(alarm::REGION)?,
             text: record.string(alarm::TEXT)?,
             details: if record.present(alarm::DETAILS)? { Some(record.bytes(alarm::DETAILS)?) } else { None },
+            raises: record.from(alarm::RAISES).u32()?,
         })
     }
 }
@@ -210,10 +234,14 @@ impl<'a> AuditEvent<'a> {
 }
 
 impl fmt::Display for Alarm<'_> {
-    /// One line: `critical raised A1 drive.trip other:ropeway.drive-trip interface(drive,main) since 2026-03-14 09:12:04: text`.
+    /// One line: `critical raised A1 drive.trip other:ropeway.drive-trip interface(drive,main) since 2026-03-14 09:12:04: text`;
+    /// where it was raised more than once, `.. since 2026-03-14 09:12:04, raised 3 times: text`.
     fn fmt(&self, f: &mut fmt::Formatter<'_>) -> fmt::Result {
         write!(f, "{} {} {} {} {} {}", self.severity, self.state, self.id, self.alarm_type, self.cause, self.object)?;
         write!(f, " since {}", self.raised_at)?;
+        if self.raises > 1 {
+            write!(f, ", raised {} times", self.raises)?;
+        }
         if self.text.is_empty() {
             Ok(())
         } else {

@@ -33,7 +33,7 @@ fn stored_as_sent(raise: &Raise<'_>) {
         (raise.id, raise.alarm_type, raise.severity, raise.cause)
     );
     assert_eq!((alarm.object, alarm.tenant, alarm.slice, alarm.region), (raise.object, raise.tenant, raise.slice, raise.region));
-    assert_eq!((alarm.text, alarm.details), (raise.text, raise.details));
+    assert_eq!((alarm.text, alarm.details, alarm.raises), (raise.text, raise.details, 1));
     assert_eq!(Call::read(raise.call().as_bytes()), Some(Call::Raise(*raise)));
 }
 

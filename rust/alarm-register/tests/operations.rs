@@ -1,7 +1,8 @@
 //! Every operation through the typed calls, on a register with room for 2 active alarms, 3 entries of history and 1 event.
 use alarm_register::{
-    ActionAnswer, Clear, ClearAnswer, CountActive, Expire, Limits, ListActive, ListHistory, Object, Operation, PlainAction,
-    PolicyAction, Raise, RaiseAnswer, Readiness, Refusal, Register, Scope, Severity, State, Summarise, TakeAudit, Time,
+    layout, ActionAnswer, Clear, ClearAnswer, CountActive, Expire, Limits, ListActive, ListHistory, Object, Operation,
+    PlainAction, PolicyAction, Raise, RaiseAnswer, Readiness, Refusal, Register, Scope, Severity, State, Summarise, TakeAudit,
+    Time, RECORD_WIDTH,
 };
 
 const LIMITS: Limits = Limits { active: 2, history: 3, audit: 1 };
@@ -32,6 +33,14 @@ impl Desk {
     fn history(&mut self) -> Vec<(State, Severity)> {
         self.does(&ListHistory::default()).map(|alarm| (alarm.state, alarm.severity)).collect()
     }
+
+    fn history_raises(&mut self) -> Vec<u32> {
+        self.does(&ListHistory::default()).map(|alarm| alarm.raises).collect()
+    }
+
+    fn active_raises(&mut self) -> Vec<u32> {
+        self.does(&ListActive { severity: None }).map(|alarm| alarm.raises).collect()
+    }
 }
 
 fn raise(time: i64, id: &'static str, object: Object<'static>) -> Raise<'static> {
@@ -57,6 +66,57 @@ fn one_alarm_raised_three_times_then_cleared_and_raised_anew() {
     );
     let cleared_at: Vec<_> = desk.does(&ListHistory::default()).map(|alarm| alarm.cleared_at).collect();
     assert_eq!(cleared_at, [None, Some(Time(1)), None]);
+}
+
+#[test]
+fn raises_are_counted_until_an_alarm_ends_and_history_has_the_count_of_each_change() {
+    let mut desk = Desk::fresh();
+    desk.does(&raise(1, "a", TENANT_A));
+    assert_eq!((desk.active_raises(), desk.history_raises()), (vec![1], vec![1]));
+    for (time, history) in [(2, [1, 2]), (3, [1, 3])] {
+        assert!(matches!(desk.does(&raise(time, "b", TENANT_A)), RaiseAnswer::Updated(alarm) if i64::from(alarm.raises) == time));
+        assert_eq!(desk.history_raises(), history);
+    }
+    let acknowledged = desk.does(&PlainAction::acknowledge(Time(4), "a").authorised(true));
+    assert!(matches!(acknowledged, ActionAnswer::Acknowledged(alarm) if alarm.raises == 3));
+    desk.does(&raise(5, "c", TENANT_A));
+    assert_eq!((desk.active_raises(), desk.history_raises()), (vec![4], vec![1, 3, 4]));
+    let suppressed = desk.does(&PlainAction::suppress(Time(6), "a").authorised(true));
+    assert!(matches!(suppressed, ActionAnswer::Suppressed(alarm) if alarm.raises == 4));
+    desk.does(&raise(7, "d", TENANT_A));
+    desk.does(&Clear::new(Time(8), "t", "lease-lost", TENANT_A));
+    assert_eq!((desk.active_raises(), desk.history_raises()), (vec![], vec![4, 5, 5]));
+    desk.does(&raise(9, "e", TENANT_A));
+    desk.does(&raise(9, "f", TENANT_B));
+    desk.does(&raise(9, "g", TENANT_B));
+    assert_eq!(desk.active_raises(), [1, 2]);
+    desk.does(&Expire { before: Time(10) });
+    assert_eq!((desk.active_raises(), desk.history_raises()), (vec![], vec![2, 1, 2]));
+}
+
+#[test]
+fn raises_of_a_record_from_before_start_at_0_and_the_largest_number_stays() {
+    let mut desk = Desk::fresh();
+    desk.does(&raise(1, "a", TENANT_A));
+    let place = RECORD_WIDTH + layout::alarm::RAISES;
+    for (stored, then) in [(0, 1), (255, 256), (65_535, 65_536), (u32::MAX - 1, u32::MAX), (u32::MAX, u32::MAX)] {
+        desk.register[place..place + 4].copy_from_slice(&stored.to_be_bytes());
+        assert_eq!(desk.active_raises(), [stored]);
+        assert!(matches!(desk.does(&raise(2, "b", TENANT_A)), RaiseAnswer::Updated(alarm) if alarm.raises == then));
+    }
+}
+
+#[test]
+fn an_alarm_is_told_with_its_raises_where_there_are_more_than_one() {
+    let mut desk = Desk::fresh();
+    let said = |desk: &mut Desk| desk.does(&ListActive { severity: None }).map(|alarm| alarm.to_string()).collect::<Vec<_>>();
+    let since = "lease-lost tenant(a) since 1970-01-01 00:00:00";
+    desk.does(&raise(0, "a", TENANT_A).text("x"));
+    assert_eq!(said(&mut desk), [format!("minor raised a t {since}: x")]);
+    desk.does(&raise(0, "b", TENANT_A).text("y"));
+    assert_eq!(said(&mut desk), [format!("minor updated a t {since}, raised 2 times: y")]);
+    desk.does(&raise(0, "c", TENANT_A));
+    assert_eq!(said(&mut desk), [format!("minor updated a t {since}, raised 3 times")]);
 }
 
 #[test]

@@ -299,8 +299,11 @@ mod tests {
             "refused 30",
             "worst at end",
             "suppressed at end",
+            "raises at end",
+            "most raises at end",
             "history entries at end",
             "active at end minor lease-lost",
+            "raises at end minor lease-lost",
             "raises lease-lost",
         ];
         for (name, bound) in figures.into_iter().chain(others).chain(none.map(|name| (name, None))) {

@@ -119,12 +119,12 @@ fn walk(bytes: &[u8], chain: Chain, head: usize, on_chain: &mut [Option<Chain>])
 
 #[cfg(test)]
 mod tests {
-    use super::register;
+    use super::{finding, register};
+    use alarm_register::layout::alarm::RAISES;
     use alarm_register::{Limits, Object, PolicyAction, Raise, Register, Severity, Time, ANSWER_ROOM, RECORD_WIDTH};
 
-    /// A register with two active alarms, some history and one event.
-    fn filled() -> Vec<u8> {
-        let limits = Limits { active: 2, history: 3, audit: 1 };
+    /// A register with two active alarms, three entries of history and one event.
+    fn filled(limits: Limits) -> Vec<u8> {
         let (mut bytes, mut answer) = (vec![0; limits.register_length()], [0; ANSWER_ROOM]);
         let mut opened = Register::open(&mut bytes, limits).unwrap();
         let queue = Object::DataPlaneQueue { nf: "n", interface: "i", queue: 7 };
@@ -139,7 +139,7 @@ mod tests {
 
     #[test]
     fn a_place_is_found_exactly_where_a_register_is_not_sound() {
-        let whole = filled();
+        let whole = filled(Limits { active: 2, history: 3, audit: 1 });
         assert_eq!(register(&whole), []);
         let (mut state, mut unsound) = (7u64, 0);
         for _ in 0..5_000 {
@@ -156,5 +156,21 @@ mod tests {
             assert_eq!(register(&bytes).is_empty(), sound);
         }
         assert!((1_250..5_000).contains(&unsound), "{unsound}");
+    }
+
+    #[test]
+    fn raises_of_an_alarm_may_be_any_number_and_elsewhere_their_bytes_have_no_meaning() {
+        let whole = filled(Limits { active: 2, history: 4, audit: 2 });
+        let mut unsound = Vec::new();
+        for at in (0..9 * 4).map(|place| place / 4 * RECORD_WIDTH + RAISES + place % 4) {
+            let mut bytes = whole.clone();
+            bytes[at] = 255;
+            let sound = Register::over(&mut bytes).is_sound();
+            let wrong = finding(at, "a byte without meaning is 255, not zero".to_string());
+            assert_eq!(register(&bytes), if sound { vec![] } else { vec![wrong] });
+            unsound.extend((!sound).then_some(at / RECORD_WIDTH));
+        }
+        // each of the four bytes in the header, in the event and in two free records; not in five alarms
+        assert_eq!(unsound, [0, 5, 7, 8].map(|record| [record; 4]).concat());
     }
 }

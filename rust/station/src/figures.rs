@@ -1,8 +1,9 @@
 //! The figures of a list of calls, and of a report that is to be recounted.
+use crate::raises::ActiveRaises;
 use crate::replay::{Machine, Tally};
 use crate::table::{column, numbers, Cell, Table};
 use crate::tables::suppressed;
-use alarm_register::{code_name, CountActive, ListActive, ListHistory, Operation, Refusal, Summarise, TakeAudit};
+use alarm_register::{code_name, Count, CountActive, ListActive, ListHistory, Operation, Refusal, Summarise, TakeAudit};
 use std::ops::RangeInclusive;
 
 /// A figure: its name and its value.
@@ -41,13 +42,16 @@ pub fn of(machine: &Machine, tally: &Tally) -> Result<Vec<Figure>, Refusal> {
 
 /// The figures of the register at the list's end.
 fn at_end(machine: &Machine, add: &mut impl FnMut(String, String)) -> Result<(), Refusal> {
+    let active = machine.look(&ListActive { severity: None }.call())?;
+    let raises = ActiveRaises::of(&active);
     let answer = machine.look(&Summarise.call())?;
     if let Some(summary) = Summarise::read_answer(&answer) {
         add("active at end".to_string(), summary.active.to_string());
         add("worst at end".to_string(), summary.worst.map_or("none", |worst| worst.name()).to_string());
         add("readiness at end".to_string(), summary.readiness.to_string());
-        let active = machine.look(&ListActive { severity: None }.call())?;
         add("suppressed at end".to_string(), suppressed(&active).to_string());
+        add("raises at end".to_string(), raises.sum.to_string());
+        add("most raises at end".to_string(), raises.most.to_string());
         add("audit events stored".to_string(), summary.successes.to_string());
         add("audit events lost".to_string(), summary.failures.to_string());
     }
@@ -56,8 +60,12 @@ fn at_end(machine: &Machine, add: &mut impl FnMut(String, String)) -> Result<(),
     let answer = machine.look(&ListHistory::default().call())?;
     add("history entries at end".to_string(), ListHistory::read_answer(&answer).map_or(0, |alarms| alarms.len()).to_string());
     let answer = machine.look(&CountActive.call())?;
-    for count in CountActive::read_answer(&answer).into_iter().flatten() {
-        add(format!("active at end {} {}", count.severity, count.cause), count.alarms.to_string());
+    let counts: Vec<Count<'_>> = CountActive::read_answer(&answer).into_iter().flatten().collect();
+    for Count { severity, alarms, cause } in &counts {
+        add(format!("active at end {severity} {cause}"), alarms.to_string());
+    }
+    for Count { severity, cause, .. } in &counts {
+        add(format!("raises at end {severity} {cause}"), raises.of_pair(*severity, cause).to_string());
     }
     Ok(())
 }
@@ -77,8 +85,11 @@ pub fn table(figures: &[Figure]) -> Table {
 fn known(name: &str, counted: &[Figure]) -> bool {
     let opens = ["refused ", "alarms ", "raises "];
     // a severity and a cause: `station reach` shows counts of a severity alone, which a recount does not have
-    let at_end = name.strip_prefix("active at end ").is_some_and(|rest| rest.contains(' '));
-    counted.iter().any(|(figure, _)| figure == name) || at_end || opens.iter().any(|open| name.starts_with(open))
+    let known_open = match ["active at end ", "raises at end "].iter().find_map(|open| name.strip_prefix(open)) {
+        Some(pair) => pair.contains(' '),
+        None => opens.iter().any(|open| name.starts_with(open)),
+    };
+    known_open || counted.iter().any(|(figure, _)| figure == name)
 }
 
 /// The figures of a report, or what is wrong with it. `counted` are those of the raw calls.
@@ -173,8 +184,10 @@ mod tests {
         assert!(report("figure,value\ncalls,1,2\n", &counted).unwrap_err().starts_with("line 2: two fields"));
         assert!(report("figure,value\ncalls,1\ncalls,1\n", &counted).unwrap_err().ends_with("given twice"));
         assert_eq!(report("figure,value\nraises other:a.b,7\nactive at end major other:a.b,1\n", &counted).unwrap().len(), 2);
-        assert!(report("figure,value\nactive at end major,1\n", &counted)
-            .unwrap_err()
-            .contains("no figure `active at end major`"));
+        assert_eq!(report("figure,value\nraises at end major other:a.b,7\n", &counted).unwrap().len(), 1);
+        for name in ["active at end major", "raises at end major"] {
+            let fault = report(&format!("figure,value\n{name},1\n"), &counted).unwrap_err();
+            assert!(fault.contains(&format!("no figure `{name}`")), "{fault}");
+        }
     }
 }

@@ -15,6 +15,7 @@ mod list;
 mod options;
 mod page;
 mod progress;
+mod raises;
 mod reach;
 mod record;
 mod recount;

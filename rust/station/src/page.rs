@@ -22,6 +22,9 @@ and the summary. The page leaves out types, scopes, details and keys; --json and
   --csv          the table of --only as CSV
   -o REGISTER    also writes the register's bytes to a file, for `station check`
 
+The column `times` tells how often an alarm was raised: of active alarms until now,
+in history until that change.
+
 In the summary worst severity and readiness are of the active alarms that are not
 suppressed; how many are suppressed stands below the number of active ones.
 

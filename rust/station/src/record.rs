@@ -126,6 +126,7 @@ impl<'a> Fields<'a> {
         if self.present(alarm::DETAILS) {
             self.bytes(alarm::DETAILS);
         }
+        self.part(alarm::RAISES, 4);
     }
 
     fn object(&mut self) {

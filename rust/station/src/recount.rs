@@ -32,6 +32,10 @@ and has a figure on each line:
                             what the register holds after the last call
   worst at end, readiness at end
                             of the active alarms that are then not suppressed
+  raises at end, raises at end SEVERITY CAUSE, most raises at end
+                            raises folded into the alarms that are then active:
+                            added up, in all and by severity and cause, and the
+                            most of one alarm
   audit events stored, audit events lost
                             the register's audit counters
 

@@ -61,6 +61,7 @@ fn alarms<'a>(
         below_named("region"),
         off_page("details"),
         off_page("key"),
+        numbers("times"),
     ];
     let rows: Vec<Vec<Cell>> = alarms.map(|one| alarm(one, zone)).collect();
     Table { name, title: format!("{title}: {}, oldest first", rows.len()), columns, rows }
@@ -83,6 +84,7 @@ fn alarm(alarm: Alarm<'_>, zone: Zone) -> Vec<Cell> {
         Cell::maybe(alarm.region),
         Cell::maybe(alarm.details.map(hexadecimal)),
         Cell::of(alarm.key),
+        Cell::Number(alarm.raises.into()),
     ]
 }
 
@@ -186,4 +188,39 @@ fn summed(summary: Option<Summary>, suppressed: u64) -> Table {
     };
     let title = "SUMMARY: worst and readiness of the active alarms that are not suppressed".to_string();
     Table { name: "summary", title, columns, rows: summary.map(row).into_iter().collect() }
+}
+
+#[cfg(test)]
+mod tests {
+    use super::{alarms, off_page, times, Zone};
+    use crate::ruled::PAGE_WIDTH;
+    use alarm_register::{Alarm, Key, Object, Severity, State, Time};
+
+    #[test]
+    fn the_largest_number_of_raises_fits_the_page_beside_the_longest_fields() {
+        let long = "x".repeat(256);
+        let alarm = Alarm {
+            key: Key([255; 16]),
+            severity: Severity::Indeterminate,
+            state: State::Acknowledged,
+            raised_at: Time(i64::MAX),
+            updated_at: Time(i64::MAX),
+            cleared_at: None,
+            id: &long[..64],
+            alarm_type: &long[..64],
+            cause: &long[..96],
+            object: Object::DataPlaneQueue { nf: &long[..64], interface: &long[..64], queue: 65_535 },
+            tenant: Some(&long[..64]),
+            slice: Some(&long[..64]),
+            region: Some(&long[..128]),
+            text: &long,
+            details: None,
+            raises: u32::MAX,
+        };
+        let table = alarms("active", "T", [times("raised_at"), off_page("updated_at")], Zone::default(), [alarm].into_iter());
+        let page = table.ruled();
+        assert!(page.lines().all(|line| line.chars().count() <= PAGE_WIDTH), "{page}");
+        assert_eq!(page.lines().filter(|line| line.ends_with("│ 4294967295")).count(), 1, "{page}");
+        assert!(table.csv().starts_with("raised_at,") && table.csv().ends_with(",4294967295\n"), "{}", table.csv());
+    }
 }

@@ -135,3 +135,26 @@ fn table(compared: &Compared, replaced: usize) -> Table {
         ],
     }
 }
+
+#[cfg(test)]
+mod tests {
+    use super::{masked_answer, masked_register, Step};
+    use alarm_register::layout::alarm::RAISES;
+    use alarm_register::{Limits, Object, Operation, Raise, Register, Severity, Time, ANSWER_ROOM, HEAD_WIDTH, RECORD_WIDTH};
+
+    #[test]
+    fn twins_may_differ_up_to_the_raises_of_an_alarm_and_not_in_them() {
+        let limits = Limits { active: 1, history: 1, audit: 1 };
+        let (mut bytes, mut room) = (vec![0; limits.register_length()], [0; ANSWER_ROOM]);
+        let raise = Raise::new(Time(0), "a", "t", Severity::Minor, "lease-lost", Object::Tenant { tenant: "a" }).call();
+        let got = Register::open(&mut bytes, limits).unwrap().step(raise.as_bytes(), &mut room).unwrap().to_vec();
+        let answered = |got: &[u8]| masked_answer(&Step { call: raise.as_bytes(), got: Ok(got), register: &[] });
+        for (at, same) in [(RAISES - 1, true), (RAISES, false), (RAISES + 3, false)] {
+            let (mut other_bytes, mut other_got) = (bytes.clone(), got.clone());
+            other_bytes[RECORD_WIDTH + at] ^= 255;
+            other_got[HEAD_WIDTH + at] ^= 255;
+            assert_eq!(masked_register(&bytes) == masked_register(&other_bytes), same, "byte {at}");
+            assert_eq!(answered(&got) == answered(&other_got), same, "byte {at}");
+        }
+    }
+}
