@@ -57,11 +57,11 @@ updatedState-active n h = go (leb n 1)
 -- held: it stays a count, whatever was counted before
 oneMoreRaise-count : (n : ℕ) → Count (oneMoreRaise n)
 unfolding oneMoreRaise
-oneMoreRaise-count n = go (ltb n 4294967295) refl
+oneMoreRaise-count n = go (ltb n 4294967295) _ _ (λ e. omega (arith, ltb-true n 4294967295 e)) (omega arith)
   where
-    go : (b : Bool) → ltb n 4294967295 ≡ b → Count (cond b (n + 1) 4294967295)
-    go true e = omega (arith, ltb-true n 4294967295 e)
-    go false e = omega arith
+    go : (b : Bool) (x y : ℕ) → (b ≡ true → Count x) → Count y → Count (cond b x y)
+    go true x y p q = p refl
+    go false x y p q = q
 
 pub updated-legal : (c : RaiseValue) (a : Alarm) → LegalRaise c → LegalAlarm 3 a → LegalAlarm 3 (updatedBy c a)
 unfolding updatedBy
