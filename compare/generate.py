@@ -11,7 +11,7 @@ import reach
 from calls import call
 from orders import Counters, Given, Open, Step
 from reading import NAMES, OBJECTS, Call, Refused
-from records import CHAINS, WIDTH, alarm_record, event_record, put_link, put_number
+from records import CHAINS, MOST_RAISES, WIDTH, alarm_record, event_record, put_link, put_number
 from register import Register
 
 TIMES = [0, 1, 2, 3, 100, -1, -2, 255, 256, 2**63 - 1, 2**63 - 2, -2**63, 1 - 2**63]
@@ -118,7 +118,7 @@ def refused_opening(rng):
 
 
 def forged(rng, a, h, e):
-    """A sound register that no list of calls need reach: equal ids and keys, times and states of all kinds, any order of records."""
+    """A sound register that no list of calls need reach: equal ids and keys, times, states and raises of all kinds, any order of records."""
     order = list(range(1, 1 + a + h + e))
     rng.shuffle(order)
     data = bytearray(WIDTH * (1 + len(order)))
@@ -145,7 +145,8 @@ def forged_record(rng, chain, fields):
         return event_record(fields | times | {"action": rng.randrange(2), "outcome": rng.randrange(2)})
     key = model.key_of(fields) if rng.random() < 0.8 else bytes(16)
     state = rng.randrange(4 if chain == "active" else 6)
-    return alarm_record(fields | times | {"key": key, "state": state, "cleared_at": rng.choice([None, *TIMES])})
+    raises = rng.choice([0, 1, MOST_RAISES - 1, MOST_RAISES, rng.randrange(MOST_RAISES)])
+    return alarm_record(fields | times | {"key": key, "state": state, "cleared_at": rng.choice([None, *TIMES]), "raises": raises})
 
 
 def damaged(rng, data):

@@ -104,8 +104,9 @@ def raises_at(data):
     return int.from_bytes(data[at:at + RAISES_WIDTH], "big")
 
 
-def put_raises(data, value):
-    put(data, LAYOUT["alarm"]["raises"], value.to_bytes(RAISES_WIDTH, "big"))
+def put_raises(data, value, index=0):
+    """The raises of a record, or of the record of this index in a register."""
+    put(data, WIDTH * index + LAYOUT["alarm"]["raises"], value.to_bytes(RAISES_WIDTH, "big"))
 
 
 # ---- records
