@@ -23,14 +23,16 @@ def counted(register_, index):
     register_.write(index, alarm_record(alarm | {"raises": model.one_more(alarm["raises"])}))
 
 
-def at_the_limit():
-    """The first active alarm is counted where ActiveLimitExceeded is answered."""
-    def raise_(register_, op, call):
-        answer = model.raise_(register_, op, call)
-        if answer[0] == model.CODE_LIMIT:
-            counted(register_, register_.active[0])
-        return answer
-    return mock.patch.dict(model.STEPS, {1: raise_})
+def at_answers(*codes):
+    """The first active alarm is counted at answers of these codes too."""
+    def counting(step):
+        def stepped(register_, op, call):
+            answer = step(register_, op, call)
+            if answer[0] in codes and register_.active:
+                counted(register_, register_.active[0])
+            return answer
+        return stepped
+    return lambda: mock.patch.dict(model.STEPS, {op: counting(step) for op, step in model.STEPS.items()})
 
 
 def by_an_action():
@@ -68,7 +70,7 @@ def after_a_clear():
         if chain is self.active:
             alarm = alarm_of(record)
             former = [entry["raises"] for entry in map(self.alarm, self.history) if entry["key"] == alarm["key"]]
-            record = alarm_record(alarm | {"raises": former[-1] + 1}) if former else record
+            record = alarm_record(alarm | {"raises": model.one_more(former[-1])}) if former else record
         ADD(self, chain, record)
     return mock.patch.object(Register, "add", add)
 
@@ -94,9 +96,11 @@ def overwritten(count):
     return lambda: mock.patch.object(Register, "remember", remember)
 
 
-def lost_at_the_end():
-    """The entry of a cleared or expired alarm has none."""
-    return mock.patch.object(Register, "end", lambda self, index, alarm, **fields: END(self, index, alarm, raises=0, **fields))
+def at_the_end(count):
+    """The entry of a cleared or expired alarm holds another count."""
+    def end(self, index, alarm, **fields):
+        END(self, index, alarm, raises=count(alarm["raises"]), **fields)
+    return lambda: mock.patch.object(Register, "end", end)
 
 
 def part_of_sameness():
@@ -106,15 +110,19 @@ def part_of_sameness():
 # what lists from a fresh register show
 WRONG = {
     "0 when raised": none_when_raised,
-    "counted at the active limit": at_the_limit,
+    "counted at the active limit": at_answers(model.CODE_LIMIT),
+    "counted at a clear that finds none": at_answers(model.CODE_CLEAR_WITHOUT_ACTIVE),
+    "counted at actions that change nothing": at_answers(model.CODE_UNAUTHORIZED, model.CODE_AUDIT_FAILED, model.CODE_NOT_FOUND),
+    "counted at reports": at_answers(model.CODE_REPORT),
     "counted by acknowledge and suppress": by_an_action,
     "counted only where the state becomes updated": by_state,
     "counted on after a clear": after_a_clear,
     "part of sameness": part_of_sameness,
     "not copied to history: the entry has the count before": in_history(lambda before, after: before),
     "an overwritten entry keeps its own": overwritten(lambda own, changed: own),
-    "an overwritten entry adds both": overwritten(lambda own, changed: own + changed),
-    "lost at the end": lost_at_the_end,
+    "an overwritten entry adds both": overwritten(lambda own, changed: min(own + changed, MOST_RAISES)),
+    "lost at a clear and an expiry": at_the_end(lambda raises: 0),
+    "counted at a clear and an expiry": at_the_end(model.one_more),
 }
 # what shows only on registers that are given
 WRONG_ON_GIVEN = {
