@@ -123,12 +123,18 @@ def same_entry(_root):
         yield from unlike(f"{count} in the newest entry", raises(station, "history"), [1, 3])
 
 
-def first_match(_root):
-    """Of two active alarms with one key the first is counted."""
-    station = holding(5, 5)
+def of_one_key(*counts):
+    """A station with two active alarms of one key."""
+    station = holding(*counts)
     first, second = station.chain("active")
     alarm = alarm_of(unlinked(station.register, second)) | {"key": station.alarms("active")[0]["key"]}
     station.register[WIDTH * second + 4:WIDTH * (second + 1)] = alarm_record(alarm)[4:]
+    return station
+
+
+def first_match(_root):
+    """Of two active alarms with one key the first is counted."""
+    station = of_one_key(5, 5)
     yield from unlike("code", station(1), 2)
     yield from unlike("raises", raises(station, "active"), [6, 5])
 

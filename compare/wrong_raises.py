@@ -2,7 +2,7 @@
 
 compare/standin.py steps with them in the register's place; compare/test_raises.py tries whether the smallest inputs tell them apart.
 """
-from unittest import mock
+import contextlib
 
 import model
 import register
@@ -12,9 +12,19 @@ from register import Register
 ADD, CHANGE, END, REMEMBER, ACTED = Register.add, Register.change, Register.end, Register.remember, model.acted
 
 
+@contextlib.contextmanager
+def replaced(owner, name, other):
+    former = getattr(owner, name)
+    setattr(owner, name, other)
+    try:
+        yield
+    finally:
+        setattr(owner, name, former)
+
+
 def one_more(wrong):
     """Another number after an answer Updated."""
-    return lambda: mock.patch.object(model, "one_more", wrong)
+    return lambda: replaced(model, "one_more", wrong)
 
 
 def counted(register_, index):
@@ -32,21 +42,21 @@ def at_answers(*codes):
                 counted(register_, register_.active[0])
             return answer
         return stepped
-    return lambda: mock.patch.dict(model.STEPS, {op: counting(step) for op, step in model.STEPS.items()})
+    return lambda: replaced(model, "STEPS", {op: counting(step) for op, step in model.STEPS.items()})
 
 
 def by_an_action():
     """Acknowledge and suppress count too."""
     def acted(register_, op, index, alarm, late):
         return ACTED(register_, op, index, alarm | {"raises": model.one_more(alarm["raises"])}, late)
-    return mock.patch.object(model, "acted", acted)
+    return replaced(model, "acted", acted)
 
 
 def by_state():
     """Counted where the state becomes updated, and not where it stays acknowledged or suppressed."""
     def change(self, index, alarm, **fields):
         return CHANGE(self, index, alarm, **fields | ({} if fields["state"] == model.UPDATED else {"raises": alarm["raises"]}))
-    return mock.patch.object(Register, "change", change)
+    return replaced(Register, "change", change)
 
 
 def all_of_a_key():
@@ -57,11 +67,11 @@ def all_of_a_key():
             if "raises" in fields and other != index and self.alarm(other)["key"] == alarm["key"]:
                 counted(self, other)
         return record
-    return mock.patch.object(Register, "change", change)
+    return replaced(Register, "change", change)
 
 
 def none_when_raised():
-    return mock.patch.object(model, "alarm_record", lambda alarm: alarm_record(alarm | {"raises": 0}))
+    return replaced(model, "alarm_record", lambda alarm: alarm_record(alarm | {"raises": 0}))
 
 
 def after_a_clear():
@@ -72,18 +82,18 @@ def after_a_clear():
             former = [entry["raises"] for entry in map(self.alarm, self.history) if entry["key"] == alarm["key"]]
             record = alarm_record(alarm | {"raises": model.one_more(former[-1])}) if former else record
         ADD(self, chain, record)
-    return mock.patch.object(Register, "add", add)
+    return replaced(Register, "add", add)
 
 
 def in_history(count):
     """An entry of a changed alarm holds another count, by that before and after the change."""
     def change(self, index, alarm, **fields):
-        with mock.patch.object(Register, "remember", lambda *_: None):
+        with replaced(Register, "remember", lambda *_: None):
             record = CHANGE(self, index, alarm, **fields)
         alarm = alarm | fields | {"raises": count(alarm["raises"], (alarm | fields)["raises"])}
         self.remember(alarm, alarm_record(alarm))
         return record
-    return lambda: mock.patch.object(Register, "change", change)
+    return lambda: replaced(Register, "change", change)
 
 
 def overwritten(count):
@@ -93,18 +103,18 @@ def overwritten(count):
         if newest and all(newest[name] == alarm[name] for name in register.SAME):
             record = alarm_record(alarm | {"raises": count(newest["raises"], alarm["raises"])})
         REMEMBER(self, alarm, record)
-    return lambda: mock.patch.object(Register, "remember", remember)
+    return lambda: replaced(Register, "remember", remember)
 
 
 def at_the_end(count):
     """The entry of a cleared or expired alarm holds another count."""
     def end(self, index, alarm, **fields):
         END(self, index, alarm, raises=count(alarm["raises"]), **fields)
-    return lambda: mock.patch.object(Register, "end", end)
+    return lambda: replaced(Register, "end", end)
 
 
 def part_of_sameness():
-    return mock.patch.object(register, "SAME", (*register.SAME, "raises"))
+    return replaced(register, "SAME", (*register.SAME, "raises"))
 
 
 # what lists from a fresh register show
