@@ -196,6 +196,12 @@ def by_answers(_root):
         yield f"{counts}"
 
 
+def lists_met(_root):
+    """The lists that every run with the register has meet what needs a given register."""
+    total = sum(map(tally_of, generate.held_raises()), collections.Counter())
+    yield from (f"no {name}" for name in ON_BYTES if not total[tallied(name)])
+
+
 def unmet(_root):
     """A run must meet every kind; those of given registers and of the Rust only where these are there."""
     full = collections.Counter({tallied(name): 1 for name in (*KINDS, *ON_BYTES, *BY_ANSWERS)})
@@ -216,5 +222,6 @@ CHECKS = {
     "raises: the Rust's own answers": own_answers,
     "raises: kinds of calls": met,
     "raises: what is compared with the Rust's answers": by_answers,
+    "raises: lists of every run": lists_met,
     "raises: what a run must meet": unmet,
 }
