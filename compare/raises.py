@@ -2,22 +2,23 @@
 
 The Rust does not count raises. What is checked against it is how often it answered: on lists from a fresh register the raises of an active
 alarm are 1 and the number of answers Updated that the Rust gave for its key since its last answer Raised, and an entry of history has the
-raises that its alarm had when the Rust stored it. That these answers are what counts, and that a count rides in each entry, is read from
-document 02 and no witness of the Rust. Nor has it one for counts that are held at the largest number, or on registers that are given.
+raises that its alarm had when the Rust stored it. That Updated counts and no other answer, that counting starts at 1, and that the count
+rides in each entry is this file's reading of document 02, not the Rust's. Counts that are held at the largest number and counts on
+registers that are given have nothing in the Rust to be set beside: there the register is compared with the model alone.
 """
 from typing import NamedTuple, Optional
 
+from balance import CODE_CLEARED, CODE_RAISED, EXPIRE
+from headline import ACKNOWLEDGED, SUPPRESSED
 from orders import Step
 from original import alarm_shown, runs
 from records import MOST_RAISES, WIDTH, alarm_of, raises_at, unlinked
 from register import SAME
 from soundness import sound_chains, walked
 
-CODE_RAISED, CODE_UPDATED, CODE_CLEARED, CODE_LIMIT, CODE_SUPPRESSED, CODE_ACKNOWLEDGED = 1, 2, 3, 5, 6, 7
+CODE_UPDATED, CODE_LIMIT, CODE_SUPPRESSED, CODE_ACKNOWLEDGED = 2, 5, 6, 7
 ANSWERED_ALARM = (CODE_RAISED, CODE_UPDATED, CODE_SUPPRESSED, CODE_ACKNOWLEDGED)
-EXPIRE = 7  # the operation
 ID_IS_ACTIVE = 31  # the refusal
-ACKNOWLEDGED, SUPPRESSED = 2, 3  # states
 
 
 # ---- by the Rust's answers
@@ -94,9 +95,9 @@ def held(register):
     return Held(dict(active), *(newest or [None]))
 
 
-class Call(NamedTuple):
-    """A call: operation, refusal's number or 0, answer's code or 0; what the register held before and after it, the alarm that is answered, and
-    the one before with its key."""
+class CallMet(NamedTuple):
+    """A call: its operation, refusal's number or 0, answer's code or 0; what the register held before and after it; the alarm that is answered,
+    and the first active one before the call that has its key."""
     op: int
     number: int
     code: int
@@ -137,7 +138,7 @@ KINDS = {
     "suppressed with more than 1": lambda call: call.acted(CODE_SUPPRESSED),
     "cleared with more than 1": lambda call: call.code == CODE_CLEARED and call.ended(),
     "expired with more than 1": lambda call: call.op == EXPIRE and call.ended(),
-    "an entry overwritten by one with another count": Call.overwritten,
+    "an entry overwritten by one with another count": CallMet.overwritten,
 }
 # no list from a fresh register comes to these
 ON_BYTES = {
@@ -170,7 +171,7 @@ class Met:
 
 def called(order, outcome, before, after):
     code = 0 if outcome.number else outcome.answer[0]
-    call = Call(order.call[0], outcome.number, code, before, after)
+    call = CallMet(order.call[0], outcome.number, code, before, after)
     if code not in ANSWERED_ALARM:
         return call
     answered = alarm_of(bytes(outcome.answer[16:16 + WIDTH]))

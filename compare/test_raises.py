@@ -192,10 +192,11 @@ def twins(_root):
             yield from unlike(f"{chain} after {n} calls", raises(one, chain), raises(two, chain))
     order, answer = Step(call(8), 16 + WIDTH), bytearray(16) + alarm_record(one.alarms("active")[0])
     outcome = Outcome(0, len(answer), answer, one.register)
-    for place in ("register", "answer"):
+    for place, start in (("register", WIDTH * one.chain("active")[0]), ("answer", 16)):
         changed = bytearray(getattr(outcome, place))
-        changed[(WIDTH * one.chain("active")[0] if place == "register" else 16) + LAYOUT["alarm"]["raises"]] ^= 1
-        yield from unlike(place, twins_differ(order, outcome, outcome._replace(**{place: changed})), f"twins: {place}s differ outside text and details")
+        changed[start + LAYOUT["alarm"]["raises"]] ^= 1
+        found = twins_differ(order, outcome, outcome._replace(**{place: changed}))
+        yield from unlike(place, found, f"twins: {place}s differ outside text and details")
 
 
 # ---- wrong ways to count

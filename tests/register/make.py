@@ -56,7 +56,8 @@ SMALL = register([2, 3, 1], [[5, 2], [1, 4], [3], [6]], {
                   region="Gr\u00fcn".encode(), text="caf\u00e9 \u20ac".encode(), details=b"\xff\x00{}"),
     2: made_alarm(0x5A, 0, 3, 4, [b"store", b"shard"], 0, id=b"b", type=b"", cause=b"other:a.b", text=b"x" * 256),
     1: made_alarm(0x00, 3, 0, 6, [b"a"], 0, cleared=7, id=b"", type=b"t", cause=b"sbi-overload", text=b"", details=b""),
-    4: made_alarm(0xFF, 1, 1, 1, [b"amf", b""], 0x00010203, cleared=0, id=b"c", type=b"t" * 64, cause=b"other:\xc3\xa9.x", text=b"", region=b"r" * 128),
+    4: made_alarm(0xFF, 1, 1, 1, [b"amf", b""], 0x00010203, cleared=0, id=b"c", type=b"t" * 64, cause=b"other:\xc3\xa9.x", text=b"",
+                  region=b"r" * 128),
     3: made_event(1, 0, 0, b"a", id=b"a", type=b"link", cause=b"lease-lost", principal=b"op", tenant=b"t", reason=b"why", correlation=b"c-1"),
 }, successes=2 ** 64 - 1, failures=3)
 
