@@ -9,6 +9,7 @@ import imports  # noqa: F401  (finds the reading of calls, and the table of numb
 import headline
 import model
 import numbering
+import raises
 from balance import BY_RUST, Balance, RegisterBalance
 from orders import Counters, Given, Open, Step, results, written
 from original import Original, active_shown
@@ -106,18 +107,18 @@ class Register:
 
 
 class Rust:
-    """The lines of the oracle. The balance is of what these say, not of the register: the Rust's own answers and active list."""
+    """The lines of the oracle. Balance and raises are by what these say, not by the register: the Rust's own answers and active list."""
 
     def __init__(self, path, orders, tally):
         self.lines, self.tally = iter(ran(path, orders).decode().split("\n")[:-1]), tally
-        self.original = self.balance = self.severities = None
+        self.original = self.balance = self.raises = self.severities = None
 
     def difference(self, order, outcome):
         found = next(self.lines, "the oracle ended")
         if isinstance(order, Step):
             return self.step_difference(order.call, outcome, found)
         if isinstance(order, Open):
-            self.original, self.balance, self.severities = Original(), Balance(0, self.tally, BY_RUST), []
+            self.original, self.balance, self.raises, self.severities = Original(), Balance(0, self.tally, BY_RUST), raises.Answers(), []
             return None if found == ("refused 20" if outcome.number else "opened") else found
         return None
 
@@ -133,7 +134,11 @@ class Rust:
         fault = self.balance.fault(len(self.severities))
         if fault:
             return f"the Rust: {fault}"
-        return self.original.difference(call, outcome.number, outcome.answer[:outcome.length], outcome.register, said)
+        self.raises.follow(call[0], said)
+        self.raises.count(self.tally)
+        answer = outcome.answer[:outcome.length]
+        fault = self.original.difference(call, outcome.number, answer, outcome.register, dict(said))
+        return fault or self.raises.fault(said, answer, outcome.register)
 
 
 def unequal(found, wanted):
@@ -234,8 +239,8 @@ def result_name(order, outcome):
 
 
 def counted(orders, tools, tally):
-    """The outcomes, each counted by its name; of summaries, their kinds."""
-    by_rust = bool(tools.oracle) and for_the_rust(orders)
+    """The outcomes, each counted by its name; of summaries and of raises, their kinds."""
+    by_rust, met = bool(tools.oracle) and for_the_rust(orders), raises.Met(tally)
     for order, outcome in zip(orders, outcomes(orders, tools, tally)):
         if isinstance(order, Step):
             tally["calls"] += 1
@@ -245,6 +250,7 @@ def counted(orders, tools, tally):
             tally[name] += 1
         if name == SUMMARIES:
             headline.count(tally, active_shown(outcome.register))
+        met.see(order, outcome)
         yield outcome
 
 

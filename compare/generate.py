@@ -11,8 +11,9 @@ import reach
 from calls import call
 from orders import Counters, Given, Open, Step
 from reading import NAMES, OBJECTS, Call, Refused
-from records import CHAINS, WIDTH, alarm_record, event_record, put_link, put_number
+from records import CHAINS, MOST_RAISES, WIDTH, alarm_record, event_record, put_link, put_number, put_raises
 from register import Register
+from soundness import sound_chains
 
 TIMES = [0, 1, 2, 3, 100, -1, -2, 255, 256, 2**63 - 1, 2**63 - 2, -2**63, 1 - 2**63]
 IDS = [b"a", b"b", b"c", b"d", b"", "ü".encode(), b"i" * 64]
@@ -118,7 +119,7 @@ def refused_opening(rng):
 
 
 def forged(rng, a, h, e):
-    """A sound register that no list of calls need reach: equal ids and keys, times and states of all kinds, any order of records."""
+    """A sound register that no list of calls need reach: equal ids and keys, times, states and raises of all kinds, any order of records."""
     order = list(range(1, 1 + a + h + e))
     rng.shuffle(order)
     data = bytearray(WIDTH * (1 + len(order)))
@@ -145,7 +146,8 @@ def forged_record(rng, chain, fields):
         return event_record(fields | times | {"action": rng.randrange(2), "outcome": rng.randrange(2)})
     key = model.key_of(fields) if rng.random() < 0.8 else bytes(16)
     state = rng.randrange(4 if chain == "active" else 6)
-    return alarm_record(fields | times | {"key": key, "state": state, "cleared_at": rng.choice([None, *TIMES])})
+    raises = rng.choice([0, 1, MOST_RAISES - 1, MOST_RAISES, rng.randrange(MOST_RAISES)])
+    return alarm_record(fields | times | {"key": key, "state": state, "cleared_at": rng.choice([None, *TIMES]), "raises": raises})
 
 
 def damaged(rng, data):
@@ -255,6 +257,25 @@ def headlines():
         calls = [*(call(1, **alarm) for alarm in alarms), *(call(op, **alarm) for op, alarm in zip(ops, alarms) if op), call(11)]
         calls += [*(call(1, **alarm | dict(severity=5)) for alarm in alarms), call(11)]
         yield [opened((2, 4, 1)), *(Step(data, 1552, 0xA5) for data in calls)]
+
+
+def holding(raises):
+    """A register with one active alarm, of the worked call, that holds these raises; its entry in history holds others."""
+    data = bytearray(WIDTH * 7)
+    model.open(data, 2, 3, 1)
+    model.step(data, call(1), bytearray(1552))
+    (index,), (entry,), *_ = sound_chains(data)
+    put_raises(data, raises, index)
+    put_raises(data, MOST_RAISES - raises, entry)
+    return Given(bytes(data))
+
+
+def held_raises():
+    """An alarm that holds no or one raise, or almost or just the most, is left as raised, acknowledged or suppressed; it is raised twice,
+    acknowledged, cleared or expired, and raised anew, with lists of alarms between."""
+    for raises, op, end in itertools.product((0, 1, MOST_RAISES - 1, MOST_RAISES), (None, 3, 4), (call(2), call(7, time=1))):
+        calls = [*([call(op)] if op else []), call(1), call(1), call(5), call(8), end, call(1), call(9)]
+        yield [holding(raises), *(Step(data, ample((2, 3, 1)), 0xA5) for data in calls)]
 
 
 def every_call():

@@ -7,6 +7,8 @@ The Rust has no summary, and its `readiness_impact()` does not ask whether an ac
 readiness (M-103) are compared with the worst over all of the Rust's active alarms where none of them is suppressed; where some are, with the
 worst over those that are not, by the Rust's own state of each: that these are left aside is then the comparison's reading, not the Rust's.
 The number, which is the active length, and the two counters are the Rust's in every summary.
+
+The Rust does not count raises (M-100): alarms are compared without them. compare/raises.py sets them beside the Rust's answers.
 """
 import functools
 import itertools
@@ -28,7 +30,7 @@ def text(value):
 @functools.lru_cache(maxsize=8192)
 def alarm_shown(record):
     alarm = alarm_of(record)
-    shown = {name: text(value) for name, value in alarm.items() if name not in ("key", "details")}
+    shown = {name: text(value) for name, value in alarm.items() if name not in ("key", "details", "raises")}
     readiness = {5: 2, 4: 1}.get(alarm["severity"], 0) if alarm["state"] < 4 else 0
     details = None if alarm["details"] is None else alarm["details"].hex()
     return shown | {"key": alarm["key"].hex(), "details": details, "correlation_id": None, "readiness": readiness}

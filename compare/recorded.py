@@ -5,8 +5,9 @@ compare/recorded.py                  checks the two files; the last line is 'N p
 compare/recorded.py write [FOLDER]   writes them; FOLDER holds the six Rust files, as for compare/oracle/build.sh
 
 A line of stdout is the number, the answer's length, and the SHA-256 of the answer's bytes. The Rust's answers fix all bytes of an answer
-but the order of what a HashMap holds: that is document 01's, the order in which alarms were raised; and but a summary's worst severity and
-readiness where the Rust holds suppressed alarms: these leave them aside (M-103, see original.py).
+but the order of what a HashMap holds: that is document 01's, the order in which alarms were raised; but a summary's worst severity and
+readiness where the Rust holds suppressed alarms: these leave them aside (M-103, see original.py); and but the raises of alarms, which are
+by the number of its answers (M-100, see raises.py).
 """
 import collections
 import functools
@@ -20,6 +21,7 @@ import generate
 import headline
 import model
 import programs
+import raises
 from checklist import Skip, run
 from differential import ANSWERS, Difference, Tools, counted, modelled, ran, refusals
 from orders import Open, Step, written
@@ -29,6 +31,7 @@ from standin import read
 
 STDIN, STDOUT = (ROOT / "crates/lists_replay" / name for name in ("stdin", "stdout"))
 LISTS, CALLS, SEED = 60, 30, 1
+HISTORY = 9  # the operation
 # what the program has room for
 MOST_RECORDS, MOST_ANSWER, MOST_CALL = 12, 13 * WIDTH, 4096
 
@@ -68,7 +71,19 @@ class Recorder:
     """Follows the Rust on one list, to know the order in which alarms were raised and expired."""
 
     def __init__(self):
-        self.raised, self.expired, self.original = [], {}, Original()
+        self.raised, self.expired, self.original, self.raises = [], {}, Original(), raises.Answers()
+
+    def counted(self, op, said):
+        """What the Rust says, with the raises of each alarm that its answer or its history holds."""
+        self.raises.follow(op, said)
+        history = self.raises.history_counted()
+        said["state"]["history"] = history
+        if "alarm" in said:
+            said["alarm"], = self.raises.active_counted([said["alarm"]])
+        if "alarms" in said:
+            listed = [entry for entry, bare in zip(history, self.raises.entries) if bare in said["alarms"]]
+            said["alarms"] = listed if op == HISTORY else self.raises.active_counted(said["alarms"])
+        return said
 
     def follow(self, state):
         """Notes which alarms are active after a call, and which of those before it have expired."""
@@ -105,7 +120,7 @@ class Recorder:
         if "alarm" in said:
             return alarm_bytes(said["alarm"])
         if "alarms" in said:
-            return b"".join(map(alarm_bytes, (self.history if op == 9 else self.active)(said["alarms"])))
+            return b"".join(map(alarm_bytes, (self.history if op == HISTORY else self.active)(said["alarms"])))
         if "events" in said:
             return b"".join(map(event_bytes, said["events"]))
         if "counts" in said:
@@ -120,7 +135,7 @@ class Recorder:
             return row(0, b"")
         if printed.startswith("refused "):
             return row(int(printed.split()[1]), b"")
-        said = json.loads(printed)
+        said = self.counted(order.call[0], json.loads(printed))
         state = said.pop("state")
         if self.original.cut(order.call, state):
             raise Cut
@@ -189,6 +204,11 @@ def every_headline(_root):
     yield from headline.unmet(tally(), False)
 
 
+def every_raise(_root):
+    """The lists count raises in every way that lists from a fresh register have."""
+    yield from raises.unmet(tally(), False, False)
+
+
 def by_rust(_root):
     try:
         oracle = programs.oracle()
@@ -202,6 +222,7 @@ CHECKS = {
     "the model gives what is recorded": by_model,
     "every number and code is recorded": every_result,
     "summaries of every kind are recorded": every_headline,
+    "raises of every kind are recorded": every_raise,
     "the Rust gives what is recorded": by_rust,
 }
 

@@ -1,7 +1,7 @@
 """The fields of header, alarm and event records as values, by docs/layout.json.
 
 An alarm and an event are dictionaries of their fields: strings are bytes, an absent one is None, times are signed
-numbers, an object is its kind and its parts, a scope its number and its string.
+numbers, an object is its kind and its parts, a scope its number and its string. Raises are a number (M-100).
 """
 import functools
 import json
@@ -14,6 +14,8 @@ CHAINS = ["active", "history", "audit", "free"]
 ALARM_STRINGS = ["id", "type", "cause", "tenant", "slice", "region", "text", "details"]
 EVENT_STRINGS = ["id", "type", "cause", "principal", "tenant", "reason", "correlation"]
 SHARD_KIND, QUEUE_KIND = 4, 8
+RAISES_WIDTH = 4
+MOST_RAISES = 4294967295
 
 
 def number(data, name):
@@ -97,6 +99,16 @@ def put_object(data, kind, parts):
         put(data, fields["queue"], parts[2].to_bytes(2, "big"))
 
 
+def raises_at(data):
+    at = LAYOUT["alarm"]["raises"]
+    return int.from_bytes(data[at:at + RAISES_WIDTH], "big")
+
+
+def put_raises(data, value, index=0):
+    """The raises of a record, or of the record of this index in a register."""
+    put(data, WIDTH * index + LAYOUT["alarm"]["raises"], value.to_bytes(RAISES_WIDTH, "big"))
+
+
 # ---- records
 
 @functools.lru_cache(maxsize=4096)
@@ -112,6 +124,7 @@ def alarm_of(record):
         "updated_at": time_at(record, fields["updated_at"]),
         "cleared_at": time_at(record, cleared["at"]) if record[cleared["present"]] else None,
         "object": object_at(record),
+        "raises": raises_at(record),
     }
 
 
@@ -127,6 +140,7 @@ def alarm_record(alarm):
     for name in ALARM_STRINGS:
         put_string(data, fields[name], alarm[name])
     put_object(data, alarm["object"][0], alarm["object"][1:])
+    put_raises(data, alarm["raises"])
     return bytes(data)
 
 

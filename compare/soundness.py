@@ -7,7 +7,7 @@ import itertools
 
 import imports  # noqa: F401  (finds the reading of calls)
 from reading import LONGEST, stored
-from records import ALARM_STRINGS, CHAINS, EVENT_STRINGS, LAYOUT, QUEUE_KIND, WIDTH, link, number, object_strings
+from records import ALARM_STRINGS, CHAINS, EVENT_STRINGS, LAYOUT, QUEUE_KIND, RAISES_WIDTH, WIDTH, link, number, object_strings
 
 
 class Unsound(Exception):
@@ -72,6 +72,7 @@ def alarm(record, states):
         record.string("string", field)
     if kind == QUEUE_KIND:
         record.part(fields["object"]["queue"], 2)
+    record.part(fields["raises"], RAISES_WIDTH)  # any value: records from before raises were counted hold 0 (M-100)
 
 
 def event(record):

@@ -3,6 +3,7 @@
 
 `standin.py run` reads a list from the standard input. compare/test_differential.py tries with it whether faults are noticed.
 """
+import contextlib
 import os
 import struct
 import sys
@@ -12,6 +13,7 @@ from differential import modelled
 from headline import ACKNOWLEDGED, SUMMARY, SUPPRESSED, without, worst
 from orders import Counters, Given, Open, Step
 from original import active_shown
+from wrong_raises import WRONG, WRONG_ON_GIVEN
 
 FAULT = os.environ.get("FAULT", "")
 
@@ -121,22 +123,36 @@ SUMMARIES = {
 }
 
 
-def main():
-    out, orders, before = sys.stdout.buffer, list(read(sys.stdin.buffer.read())), b""
+# ---- wrong counts of raises (M-100): with these the model itself is another
+
+RAISES = WRONG | WRONG_ON_GIVEN
+
+
+# ---- what the driver writes
+
+def write(out, orders):
+    before, fault = b"", (FAULTS | SUMMARIES).get(FAULT)
     for order, (number, length, answer, register, _) in zip(orders, modelled(orders)):
         if isinstance(order, Open):
             before = bytes([order.former]) * order.size
         elif isinstance(order, Given):
             before = order.register
         after = bytearray(register)
-        if FAULT:
-            number, length = (FAULTS | SUMMARIES)[FAULT](order, number, length, answer, after)
+        if fault:
+            number, length = fault(order, number, length, answer, after)
         shown = answer.rstrip(bytes([order.former])) if isinstance(order, Step) else b""
         changes = [(at, after[at:at + 512]) for at in range(0, len(after), 512) if before[at:at + 512] != after[at:at + 512]]
         out.write(struct.pack(">IQI", number, length, len(shown)) + shown + struct.pack(">I", len(changes)))
         for at, part in changes:
             out.write(struct.pack(">II", at, len(part)) + part)
         before = bytes(after)
+
+
+def main():
+    if FAULT and FAULT not in FAULTS | SUMMARIES | RAISES:
+        raise SystemExit(f"no fault is named {FAULT}")
+    with RAISES.get(FAULT, contextlib.nullcontext)():
+        write(sys.stdout.buffer, list(read(sys.stdin.buffer.read())))
 
 
 if __name__ == "__main__":

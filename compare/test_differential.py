@@ -1,6 +1,6 @@
 #!/usr/bin/env python3
 """Whether the comparison notices: the model in the register's place, with and without faults, twins that are none, a balance that fails,
-a severity that reaches too far, a headline that is not M-103's."""
+a severity that reaches too far, a headline that is not M-103's, raises that are not M-100's."""
 import collections
 import os
 import pathlib
@@ -13,8 +13,11 @@ import generate
 import standin
 import test_balance
 import test_headline
+import test_raises
+import test_raises_met
 import test_reach
 import test_reach_figures
+import wrong_raises
 from calls import call
 from checklist import run
 from differential import Case, Tools, checked, fault_of, masked_register, modelled, report, shrunk
@@ -92,11 +95,15 @@ CHECKS = {
     "the model in the register's place": faultless,
     **{f"a fault is noticed: {name.replace('_', ' ')}": noticed(name) for name in standin.FAULTS},
     **{f"a wrong summary is noticed: {name}": noticed(name, test_headline.some_list) for name in standin.SUMMARIES},
+    **{f"wrong raises are noticed: {name}": noticed(name, test_raises_met.some_list) for name in wrong_raises.WRONG},
+    **{f"wrong raises are noticed: {name}": noticed(name, test_raises_met.given_list) for name in wrong_raises.WRONG_ON_GIVEN},
     "programs that end": ended,
     "twins": twins,
     "the mask": mask,
     **test_balance.CHECKS,
     **test_headline.CHECKS,
+    **test_raises.CHECKS,
+    **test_raises_met.CHECKS,
     **test_reach.CHECKS,
     **test_reach_figures.CHECKS,
 }

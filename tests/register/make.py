@@ -9,7 +9,7 @@ import sys
 
 ROOT = pathlib.Path(__file__).resolve().parents[2]
 sys.path.insert(1, str(ROOT / "compare"))
-from records import CHAINS, LAYOUT, WIDTH, alarm_record, event_record, put, put_link, put_number
+from records import CHAINS, LAYOUT, MOST_RAISES, WIDTH, alarm_record, event_record, put, put_link, put_number
 from soundness import sound_chains
 
 
@@ -24,10 +24,10 @@ def verdict(data):
 ABSENT = dict.fromkeys(("tenant", "slice", "region", "details", "correlation"))
 
 
-def made_alarm(key, severity, state, kind, strings, queue=0, cleared=None, **texts):
+def made_alarm(key, severity, state, kind, strings, raises, queue=0, cleared=None, **texts):
     return alarm_record(ABSENT | texts | {
         "key": bytes([key]) * 16, "severity": severity, "state": state, "object": (kind, *strings, queue), "cleared_at": cleared,
-        "raised_at": 0x0001020304050607, "updated_at": 1 - 2 ** 63})
+        "raised_at": 0x0001020304050607, "updated_at": 1 - 2 ** 63, "raises": raises})
 
 
 def made_event(action, outcome, scope, string=None, **texts):
@@ -49,22 +49,24 @@ def register(limits, chains, records, successes=0, failures=0):
     return data
 
 
-# All kinds of chain, options present and absent. Every alarm may stand on the active chain, so that nothing but links tells some damages.
+# All kinds of chain, options present and absent, raises of 0 and others. Every alarm may stand on the active chain, so that nothing but
+# links tells some damages.
 SMALL = register([2, 3, 1], [[5, 2], [1, 4], [3], [6]], {
-    5: made_alarm(0xA5, 5, 2, 8, [b"nf", b"n3"], queue=257, id=b"a", type=b"link", cause=b"lease-lost", tenant=b"t", slice=b"",
+    5: made_alarm(0xA5, 5, 2, 8, [b"nf", b"n3"], MOST_RAISES, queue=257, id=b"a", type=b"link", cause=b"lease-lost", tenant=b"t", slice=b"",
                   region="Gr\u00fcn".encode(), text="caf\u00e9 \u20ac".encode(), details=b"\xff\x00{}"),
-    2: made_alarm(0x5A, 0, 3, 4, [b"store", b"shard"], id=b"b", type=b"", cause=b"other:a.b", text=b"x" * 256),
-    1: made_alarm(0x00, 3, 0, 6, [b"a"], cleared=7, id=b"", type=b"t", cause=b"sbi-overload", text=b"", details=b""),
-    4: made_alarm(0xFF, 1, 1, 1, [b"amf", b""], cleared=0, id=b"c", type=b"t" * 64, cause=b"other:\xc3\xa9.x", text=b"", region=b"r" * 128),
+    2: made_alarm(0x5A, 0, 3, 4, [b"store", b"shard"], 0, id=b"b", type=b"", cause=b"other:a.b", text=b"x" * 256),
+    1: made_alarm(0x00, 3, 0, 6, [b"a"], 0, cleared=7, id=b"", type=b"t", cause=b"sbi-overload", text=b"", details=b""),
+    4: made_alarm(0xFF, 1, 1, 1, [b"amf", b""], 0x00010203, cleared=0, id=b"c", type=b"t" * 64, cause=b"other:\xc3\xa9.x", text=b"",
+                  region=b"r" * 128),
     3: made_event(1, 0, 0, b"a", id=b"a", type=b"link", cause=b"lease-lost", principal=b"op", tenant=b"t", reason=b"why", correlation=b"c-1"),
 }, successes=2 ** 64 - 1, failures=3)
 
 # The other kinds of object and scope, absent shard, an empty chain and a free chain of two.
 OTHER = register([2, 4, 3], [[], [9, 1, 8, 2], [4, 7, 3], [6, 5]], {
-    9: made_alarm(1, 2, 4, 2, [b"a:b", b"c"], id=b"i", type=b"t", cause=b"key-unavailable", text=b"\xf0\x9f\x9a\xa0"),
-    1: made_alarm(2, 4, 5, 3, [b"", b"peer"], id=b"i", type=b"t", cause=b"other:x.y.z", text=b"", tenant=b"", slice=b"s"),
-    8: made_alarm(3, 5, 2, 4, [b"nf", None], id=b"i", type=b"t", cause=b"nrf-unreachable", text=b"", details=bytes(512)),
-    2: made_alarm(4, 5, 3, 7, [b"k"], id=b"i", type=b"t", cause=b"certificate-expired", text=b"", cleared=1),
+    9: made_alarm(1, 2, 4, 2, [b"a:b", b"c"], MOST_RAISES, id=b"i", type=b"t", cause=b"key-unavailable", text=b"\xf0\x9f\x9a\xa0"),
+    1: made_alarm(2, 4, 5, 3, [b"", b"peer"], MOST_RAISES - 1, id=b"i", type=b"t", cause=b"other:x.y.z", text=b"", tenant=b"", slice=b"s"),
+    8: made_alarm(3, 5, 2, 4, [b"nf", None], 1, id=b"i", type=b"t", cause=b"nrf-unreachable", text=b"", details=bytes(512)),
+    2: made_alarm(4, 5, 3, 7, [b"k"], 0x80000000, id=b"i", type=b"t", cause=b"certificate-expired", text=b"", cleared=1),
     4: made_event(0, 1, 1, b"tenant", id=b"i", type=b"t", cause=b"key-unavailable", principal=b"", reason=b"r" * 256),
     7: made_event(1, 1, 2, id=b"", type=b"", cause=b"other:a.b", principal=b"p", tenant=b"", reason=b"", correlation=b""),
     3: made_event(0, 0, 0, b"", id=b"i", type=b"t", cause=b"lease-lost", principal="\u65e5".encode(), reason=b"x"),
@@ -192,12 +194,20 @@ def scratch(orders, place, data):
             orders.check(size + WIDTH)
 
 
+def raises(orders, place, data):
+    """The bytes of raises in every record and in the header: any value is sound in an alarm, and none but 0 elsewhere (M-100)."""
+    for index in range(len(data) // WIDTH):
+        for value in (0, MOST_RAISES):
+            orders.damaged(place, len(data), (WIDTH * index + LAYOUT["alarm"]["raises"], value))
+
+
 def main():
     orders = Orders([SMALL, OTHER])
     for place, data in enumerate([SMALL, OTHER]):
         assert orders.damaged(place, len(data)) is not None, "the register is not sound"
         structure(orders, place, data)
         scratch(orders, place, data)
+        raises(orders, place, data)
     orders.load(0, len(SMALL))
     for mask in (0x01, 0x80, 0xFF):
         orders.flip(len(SMALL), mask)
