@@ -1,11 +1,15 @@
--- M-100: the raises in the records that the smallest lists leave, by computation: which calls count, and that history has them as they were.
+-- M-100: the raises in the records that the smallest lists leave, by computation: which calls count, that history has them as they were, and that
+-- they are held at the most.
 use Prim.Native.Nat.{ℕ}
 use mathlib.Core.Path.{_≡_, refl}
 use mathlib.Core.List.{List, [], _∷_, map}
+use mathlib.Core.Option.{none}
 use native.Mathlib.Omega.{arith}
 use lib.Dec.{T}
 use Rattle.octets.specs.Bytes.{Bytes, numberAt, be32, digits, splice}
 use Rattle.definition.specs.Parse.{parseCall}
+use Rattle.definition.specs.Book.{walk, readBook}
+use Rattle.definition.specs.Mask.{maskRecord, maskChain, maskRegister}
 use Rattle.definition.specs.Chain.{Entry, replaced}
 use Rattle.definition.specs.Alarm.{Alarm, withRaises}
 use Rattle.definition.specs.Slot.{join}
@@ -20,65 +24,72 @@ use Rattle.definition.specs.Laws.Steps.LegalMoves.{ended, changeActive-l
 use Rattle.definition.specs.Laws.Steps.StationBook.{fresh-legalStation}
 use Rattle.definition.specs.Laws.Twins.KeptLegal.{call-kept, stationAfter, legal-after}
 use Rattle.definition.specs.Laws.Table.Calls.{raise, clear, acknowledge, suppress, expire}
-use Rattle.definition.specs.Laws.Table.Shown.{ample, repliesTo, leftFrom, left, raisesOn}
+use Rattle.definition.specs.Laws.Table.Shown.{ample, repliesTo, Told, answered, told, leftFrom, left, leaving, raisesOn}
 use Rattle.definition.specs.Laws.Table.Stations.{areOctets, octets, allOctets, replies, run-legal, computed, by-stations}
 
-abbrev leaves : List Reply → List ℕ × List ℕ
-leaves q = raisesOn (left q)
+-- what calls on the fresh register told, and the raises in the records that they leave: of the active chain, and of history
+unfoldable pub raisesBehind : List Bytes → List Told × (List ℕ × List ℕ)
+raisesBehind l = leaving raisesOn (repliesTo l)
 
--- the raises in the records that calls leave: of the active chain, and of history
-unfoldable pub raisesBehind : List Bytes → List ℕ × List ℕ
-raisesBehind l = leaves (repliesTo l)
+-- the same raises in the register masked
+unfoldable pub raisesMasked : List Bytes → List ℕ × List ℕ
+raisesMasked l = raisesOn (maskRegister (left (repliesTo l)))
 
--- of a raise of `a` once and again
+-- a raise of `a`, once and again
 abbrev once : Bytes
 once = raise 0 "a" "a"
 
-pub record Counted : Type 0 where
+pub record RaisesCounted : Type 0 where
   -- "1 when raised", "copied to history"
-  pub raised : raisesBehind (once ∷ []) ≡ (1 ∷ [], 1 ∷ [])
+  pub raised : raisesBehind (once ∷ []) ≡ (answered 1 ∷ [], (1 ∷ [], 1 ∷ []))
   -- "one more at each answer Updated": history has the changed alarm, and its first entry stays
-  pub updated : raisesBehind (once ∷ once ∷ []) ≡ (2 ∷ [], 1 ∷ 2 ∷ [])
+  pub updated : raisesBehind (once ∷ once ∷ []) ≡ (answered 1 ∷ answered 2 ∷ [], (2 ∷ [], 1 ∷ 2 ∷ []))
   -- "no part of history's sameness test": the entry of the second raise is overwritten by the third, and has its raises
-  pub overwritten : raisesBehind (once ∷ once ∷ once ∷ []) ≡ (3 ∷ [], 1 ∷ 3 ∷ [])
+  pub overwritten : raisesBehind (once ∷ once ∷ once ∷ []) ≡ (answered 1 ∷ answered 2 ∷ answered 2 ∷ [], (3 ∷ [], 1 ∷ 3 ∷ []))
   -- at the limit of two a third key counts nothing
-  pub exceeded : raisesBehind (once ∷ raise 0 "b" "b" ∷ raise 0 "c" "c" ∷ []) ≡ (1 ∷ 1 ∷ [], 1 ∷ 1 ∷ [])
-  -- nor does one that is refused for its id: 31
-  pub refused : raisesBehind (once ∷ raise 0 "a" "b" ∷ []) ≡ (1 ∷ [], 1 ∷ [])
+  pub exceeded : raisesBehind (once ∷ raise 0 "b" "b" ∷ raise 0 "c" "c" ∷ []) ≡ (answered 1 ∷ answered 1 ∷ answered 5 ∷ [], (1 ∷ 1 ∷ [], 1 ∷ 1 ∷ []))
+  -- nor does a raise that is refused for its id
+  pub refused : raisesBehind (once ∷ raise 0 "a" "b" ∷ []) ≡ (answered 1 ∷ (31, none) ∷ [], (1 ∷ [], 1 ∷ []))
   -- an action counts nothing
-  pub acted : raisesBehind (once ∷ acknowledge "a" 1 ∷ suppress "a" 1 ∷ []) ≡ (1 ∷ [], 1 ∷ 1 ∷ 1 ∷ [])
+  pub acted : raisesBehind (once ∷ acknowledge "a" 1 ∷ suppress "a" 1 ∷ []) ≡ (answered 1 ∷ answered 7 ∷ answered 6 ∷ [], (1 ∷ [], 1 ∷ 1 ∷ 1 ∷ []))
   -- Updated is an answer: where the state stays 2 or 3 it counts too, and the entry of the action is overwritten
-  pub acknowledged : raisesBehind (once ∷ acknowledge "a" 1 ∷ once ∷ []) ≡ (2 ∷ [], 1 ∷ 2 ∷ [])
-  pub suppressed : raisesBehind (once ∷ suppress "a" 1 ∷ once ∷ []) ≡ (2 ∷ [], 1 ∷ 2 ∷ [])
+  pub acknowledged : raisesBehind (once ∷ acknowledge "a" 1 ∷ once ∷ []) ≡ (answered 1 ∷ answered 7 ∷ answered 2 ∷ [], (2 ∷ [], 1 ∷ 2 ∷ []))
+  pub suppressed : raisesBehind (once ∷ suppress "a" 1 ∷ once ∷ []) ≡ (answered 1 ∷ answered 6 ∷ answered 2 ∷ [], (2 ∷ [], 1 ∷ 2 ∷ []))
   -- a clear and an expiry keep the raises
-  pub cleared : raisesBehind (once ∷ once ∷ clear 1 "a" ∷ []) ≡ ([], 1 ∷ 2 ∷ 2 ∷ [])
-  pub expired : raisesBehind (once ∷ once ∷ expire 1 ∷ []) ≡ ([], 1 ∷ 2 ∷ 2 ∷ [])
+  pub cleared : raisesBehind (once ∷ once ∷ clear 1 "a" ∷ []) ≡ (answered 1 ∷ answered 2 ∷ answered 3 ∷ [], ([], 1 ∷ 2 ∷ 2 ∷ []))
+  pub expired : raisesBehind (once ∷ once ∷ expire 1 ∷ []) ≡ (answered 1 ∷ answered 2 ∷ answered 11 ∷ [], ([], 1 ∷ 2 ∷ 2 ∷ []))
   -- raised anew it starts at 1; the oldest of three entries goes
-  pub anew : raisesBehind (once ∷ once ∷ clear 1 "a" ∷ once ∷ []) ≡ (1 ∷ [], 2 ∷ 2 ∷ 1 ∷ [])
+  pub anew : raisesBehind (once ∷ once ∷ clear 1 "a" ∷ once ∷ []) ≡ (answered 1 ∷ answered 2 ∷ answered 3 ∷ answered 1 ∷ [], (1 ∷ [], 2 ∷ 2 ∷ 1 ∷ []))
+  -- "compared with both fields, their lengths and presence taken as zero": that leaves the raises
+  pub masked : raisesMasked (once ∷ once ∷ []) ≡ (2 ∷ [], 1 ∷ 2 ∷ [])
 
 -- ---- a register in which record 1 holds another number: that which `once` leaves, with n at byte 1451 of the record
 
 abbrev given : ℕ → Bytes
 given n = splice (left (repliesTo (once ∷ []))) 2987 (be32 n)
 
--- the number there when `a` is raised once more
-unfoldable pub againAt : ℕ → ℕ
-againAt n = numberAt 4 (leftFrom (given n) (run (ample once ∷ []) (given n))) 2987
+-- what calls on a register told, and the number there then
+abbrev there : Bytes → List Reply → List Told × ℕ
+there b q = (told q, numberAt 4 (leftFrom b q) 2987)
 
-pub record Held : Type 0 where
+unfoldable pub againFrom : ℕ → List Told × ℕ
+againFrom n = there (given n) (run (ample once ∷ []) (given n))
+
+pub record RaisesHeld : Type 0 where
   -- "older records hold 0": one more is 1
-  pub older : againAt 0 ≡ 1
+  pub older : againFrom 0 ≡ (answered 2 ∷ [], 1)
   -- "held at 4,294,967,295": it is reached, and stays
-  pub reached : againAt 4294967294 ≡ 4294967295
-  pub stays : againAt 4294967295 ≡ 4294967295
+  pub reached : againFrom 4294967294 ≡ (answered 2 ∷ [], 4294967295)
+  pub stays : againFrom 4294967295 ≡ (answered 2 ∷ [], 4294967295)
 
-computes : (l : List Bytes) {x : List ℕ × List ℕ} → T (allOctets (map ample l)) → leaves (computed (map ample l)) ≡ x → raisesBehind l ≡ x
+computes :
+    (l : List Bytes) {x : List Told × (List ℕ × List ℕ)} → T (allOctets (map ample l)) → leaving raisesOn (computed (map ample l)) ≡ x → raisesBehind l ≡ x
 unfolding raisesBehind
-computes l = by-stations leaves l
+computes l = by-stations (leaving raisesOn) l
 
-pub counted : Counted
-unfolding allOctets computed
-counted =
+pub raises-counted : RaisesCounted
+unfolding raisesMasked allOctets computed splice walk readBook maskRecord maskChain maskRegister
+raises-counted =
     record {
       raised = computes _ tt refl;
       updated = computes _ tt refl;
@@ -91,6 +102,7 @@ counted =
       cleared = computes _ tt refl;
       expired = computes _ tt refl;
       anew = computes _ tt refl;
+      masked = by-stations (λ (q : List Reply). raisesOn (maskRegister (left q))) _ tt refl;
     }
 
 -- ---- the register given is a legal station's
@@ -121,15 +133,16 @@ behind-legal =
 abbrev forged : ℕ → Station
 forged n = recounted n (behind .active) behind
 
-again : (n : ℕ) {m : ℕ} → Count n → given n ≡ encode (forged n) → numberAt 4 (leftFrom (encode (forged n)) (replies (forged n) (ample once ∷ []))) 2987 ≡ m → againAt n ≡ m
-unfolding againAt allOctets join digits
+again :
+    (n : ℕ) {x : List Told × ℕ} → Count n → given n ≡ encode (forged n) → there (encode (forged n)) (replies (forged n) (ample once ∷ [])) ≡ x → againFrom n ≡ x
+unfolding againFrom allOctets join digits
 again n k e h =
     let l = recounted-legal n k (behind .active) (behind-legal .fields .active) behind behind-legal in
     rw (e, run-legal (ample once ∷ []) (forged n) l tt) h
 
-pub held : Held
+pub raises-held : RaisesHeld
 unfolding allOctets computed behind recounted splice
-held =
+raises-held =
     let is : (n : ℕ) → splice (left (computed (ample once ∷ []))) 2987 (be32 n) ≡ encode (forged n) → given n ≡ encode (forged n) =
     λ n e. by-stations (λ (q : List Reply). splice (left q) 2987 (be32 n)) (once ∷ []) tt e in
     record {
