@@ -42,23 +42,20 @@ once = raise 0 "a" "a"
 pub record RaisesCounted : Type 0 where
   -- "1 when raised", "copied to history"
   pub raised : raisesBehind (once ∷ []) ≡ (answered 1 ∷ [], (1 ∷ [], 1 ∷ []))
-  -- "one more at each answer Updated": history has the changed alarm, and its first entry stays
-  pub updated : raisesBehind (once ∷ once ∷ []) ≡ (answered 1 ∷ answered 2 ∷ [], (2 ∷ [], 1 ∷ 2 ∷ []))
-  -- "no part of history's sameness test": the entry of the second raise is overwritten by the third, and has its raises
+  -- "one more at each answer Updated", "no part of history's sameness test": the first entry stays; that of the second raise is overwritten by the
+  -- third, and has its raises
   pub overwritten : raisesBehind (once ∷ once ∷ once ∷ []) ≡ (answered 1 ∷ answered 2 ∷ answered 2 ∷ [], (3 ∷ [], 1 ∷ 3 ∷ []))
   -- at the limit of two a third key counts nothing
   pub exceeded : raisesBehind (once ∷ raise 0 "b" "b" ∷ raise 0 "c" "c" ∷ []) ≡ (answered 1 ∷ answered 1 ∷ answered 5 ∷ [], (1 ∷ 1 ∷ [], 1 ∷ 1 ∷ []))
   -- nor does a raise that is refused for its id
   pub refused : raisesBehind (once ∷ raise 0 "a" "b" ∷ []) ≡ (answered 1 ∷ (31, none) ∷ [], (1 ∷ [], 1 ∷ []))
-  -- an action counts nothing
-  pub acted : raisesBehind (once ∷ acknowledge "a" 1 ∷ suppress "a" 1 ∷ []) ≡ (answered 1 ∷ answered 7 ∷ answered 6 ∷ [], (1 ∷ [], 1 ∷ 1 ∷ 1 ∷ []))
-  -- Updated is an answer: where the state stays 2 or 3 it counts too, and the entry of the action is overwritten
-  pub acknowledged : raisesBehind (once ∷ acknowledge "a" 1 ∷ once ∷ []) ≡ (answered 1 ∷ answered 7 ∷ answered 2 ∷ [], (2 ∷ [], 1 ∷ 2 ∷ []))
-  pub suppressed : raisesBehind (once ∷ suppress "a" 1 ∷ once ∷ []) ≡ (answered 1 ∷ answered 6 ∷ answered 2 ∷ [], (2 ∷ [], 1 ∷ 2 ∷ []))
-  -- a clear and an expiry keep the raises
-  pub cleared : raisesBehind (once ∷ once ∷ clear 1 "a" ∷ []) ≡ (answered 1 ∷ answered 2 ∷ answered 3 ∷ [], ([], 1 ∷ 2 ∷ 2 ∷ []))
+  -- an action counts nothing. Updated is an answer: where the state stays 2 or 3 it counts too, and the entry of the action is overwritten
+  pub acted :
+      raisesBehind (once ∷ acknowledge "a" 1 ∷ once ∷ suppress "a" 1 ∷ once ∷ [])
+      ≡ (answered 1 ∷ answered 7 ∷ answered 2 ∷ answered 6 ∷ answered 2 ∷ [], (3 ∷ [], 1 ∷ 2 ∷ 3 ∷ []))
+  -- an expiry keeps the raises
   pub expired : raisesBehind (once ∷ once ∷ expire 1 ∷ []) ≡ (answered 1 ∷ answered 2 ∷ answered 11 ∷ [], ([], 1 ∷ 2 ∷ 2 ∷ []))
-  -- raised anew it starts at 1; the oldest of three entries goes
+  -- so does a clear; raised anew it starts at 1. The oldest of four entries has gone
   pub anew : raisesBehind (once ∷ once ∷ clear 1 "a" ∷ once ∷ []) ≡ (answered 1 ∷ answered 2 ∷ answered 3 ∷ answered 1 ∷ [], (1 ∷ [], 2 ∷ 2 ∷ 1 ∷ []))
   -- "compared with both fields, their lengths and presence taken as zero": that leaves the raises
   pub masked : raisesMasked (once ∷ once ∷ []) ≡ (2 ∷ [], 1 ∷ 2 ∷ [])
@@ -92,14 +89,10 @@ unfolding raisesMasked allOctets computed splice walk readBook maskRecord maskCh
 raises-counted =
     record {
       raised = computes _ tt refl;
-      updated = computes _ tt refl;
       overwritten = computes _ tt refl;
       exceeded = computes _ tt refl;
       refused = computes _ tt refl;
       acted = computes _ tt refl;
-      acknowledged = computes _ tt refl;
-      suppressed = computes _ tt refl;
-      cleared = computes _ tt refl;
       expired = computes _ tt refl;
       anew = computes _ tt refl;
       masked = by-stations (λ (q : List Reply). raisesOn (maskRegister (left q))) _ tt refl;
