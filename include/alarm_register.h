@@ -263,8 +263,8 @@ uint32_t alarm_step(uint8_t *reg, size_t reg_len, const uint8_t *call, size_t ca
 /*
  * How often an alarm was raised: 1 when it was raised, and one more at each raise since then that was folded into it
  * (ALARM_CODE_UPDATED). It is held at the largest number, 4,294,967,295. What else happens to an alarm leaves it as it is;
- * an alarm that has ended and is raised anew has 1 again. 0 means a record from before raises were counted: they are
- * counted from its next raise on.
+ * an alarm that has ended and is raised anew has 1 again. An entry of history has the number as of its change: those of one
+ * alarm are not to be added up. 0 means a record from before raises were counted: they are counted from its next raise on.
  *
  * record[0..ALARM_RECORD_WIDTH] is the record of an alarm, active or in history, in a register or in an answer behind its
  * head.

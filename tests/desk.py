@@ -10,7 +10,7 @@ import subprocess
 import sys
 import tempfile
 
-import raises
+import times
 import reaches
 import recounts
 from checklist import HERE, Skip, run
@@ -277,7 +277,7 @@ USES = {
     "pages are narrow enough": narrow,
     "texts do not steer": steered,
     **recounts.CHECKS,
-    **raises.CHECKS,
+    **times.CHECKS,
     **reaches.CHECKS,
     "twins are the same": twins,
     "registers are checked": checked,

@@ -1,10 +1,10 @@
 //! The alarm register of a cable car's station, over bytes that the caller lends.
 //!
-//! The register raises and clears alarms, lets people acknowledge and suppress them, expires old ones, keeps a history and an
-//! audit trail, and answers lists, counts and a summary. What it does is fixed byte for byte and proved; this crate puts types
-//! around the two functions of its static library. It allocates nothing, has no dependency and needs `core` alone. A call needs
-//! 16 KiB of stack in the library, beside what the thread itself takes; [`Register::perform`] puts the call's bytes
-//! ([`CALL_ROOM`]) on it too.
+//! The register raises and clears alarms, lets people acknowledge and suppress them, expires old ones, counts how often each was
+//! raised, keeps a history and an audit trail, and answers lists, counts and a summary. What it does is fixed byte for byte and
+//! proved; this crate puts types around the two functions of its static library. It allocates nothing, has no dependency and
+//! needs `core` alone. A call needs 16 KiB of stack in the library, beside what the thread itself takes; [`Register::perform`]
+//! puts the call's bytes ([`CALL_ROOM`]) on it too.
 //!
 //! Start with [`Register`]. Operations are [`Raise`], [`Clear`], [`PlainAction`], [`PolicyAction`], [`Expire`],
 //! [`ListActive`], [`ListHistory`], [`CountActive`], [`Summarise`] and [`TakeAudit`]; each says what it is answered by.

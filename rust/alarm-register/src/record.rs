@@ -91,8 +91,9 @@ pub struct Alarm<'a> {
     /// The details, any bytes.
     pub details: Option<&'a [u8]>,
     /// How often it was raised: 1 when it was raised, and one more at each answer Updated since, held at [`u32::MAX`]. What else
-    /// happens to it leaves the count; an alarm that has ended and is raised anew has 1 again. 0 in a record from before raises
-    /// were counted: they are counted from its next raise on.
+    /// happens to it leaves the count; an alarm that has ended and is raised anew has 1 again. An entry of history has the count as
+    /// of its change: those of one alarm are not to be added up. 0 in a record from before raises were counted: they are counted
+    /// from its next raise on.
     pub raises: u32,
 }
 

@@ -22,8 +22,9 @@ and the summary. The page leaves out types, scopes, details and keys; --json and
   --csv          the table of --only as CSV
   -o REGISTER    also writes the register's bytes to a file, for `station check`
 
-The column `times` tells how often an alarm was raised: of active alarms until now,
-in history until that change.
+The column `times` tells how often an alarm was raised since it became active:
+raised anew after a clear or an expiry it starts at 1. In history it is as of that
+change, or of the last of like changes in a row, which share an entry.
 
 In the summary worst severity and readiness are of the active alarms that are not
 suppressed; how many are suppressed stands below the number of active ones.
@@ -66,7 +67,7 @@ fn page(options: &Options, list: &List, tables: &[&Table]) -> String {
         1 => "1 call".to_string(),
         calls => format!("{calls} calls"),
     };
-    let room = format!("It has room for {}. Times are {}.", list.limits, options.zone.name());
+    let room = format!("It has room for {}. Clock times are {}.", list.limits, options.zone.name());
     let title = format!("{calls} of {}, from a fresh register.", named(&options.file));
     format!("STATION ALARM REGISTER\n{title}\n{room}\n\n{}", ruled.join("\n"))
 }

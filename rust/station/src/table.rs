@@ -34,8 +34,8 @@ pub const fn numbers(name: &'static str) -> Column {
     Column { name, on_page: OnPage::Alone(Setting::Numbers) }
 }
 
-/// A column of times.
-pub const fn times(name: &'static str) -> Column {
+/// A column of clock times.
+pub const fn clock_times(name: &'static str) -> Column {
     Column { name, on_page: OnPage::Alone(Setting::Times) }
 }
 

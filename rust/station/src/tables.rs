@@ -1,6 +1,6 @@
 //! The tables of a page, asked of a register.
 use crate::replay::{Machine, Often, Tally};
-use crate::table::{below, below_named, below_named_at, column, numbers, off_page, times, Cell, Column, Table};
+use crate::table::{below, below_named, below_named_at, clock_times, column, numbers, off_page, Cell, Column, Table};
 use crate::text::Zone;
 use alarm_register::{
     code_name, Alarm, AuditEvent, CountActive, ListActive, ListHistory, Operation, Refusal, State, Summarise, Summary, TakeAudit,
@@ -18,14 +18,14 @@ pub fn of(machine: &Machine, tally: &Tally, zone: Zone) -> Result<Vec<Table>, Re
         alarms(
             "active",
             "ACTIVE ALARMS",
-            [times("raised_at"), off_page("updated_at")],
+            [clock_times("raised_at"), off_page("updated_at")],
             zone,
             ListActive::read_answer(&active).into_iter().flatten(),
         ),
         alarms(
             "history",
             "HISTORY",
-            [off_page("raised_at"), times("updated_at")],
+            [off_page("raised_at"), clock_times("updated_at")],
             zone,
             ListHistory::read_answer(&history).into_iter().flatten(),
         ),
@@ -99,7 +99,7 @@ fn hexadecimal(bytes: &[u8]) -> String {
 /// The audit trail: events that calls took out, then those that the register holds.
 fn events<'a>(tally: &Tally, zone: Zone, held: impl Iterator<Item = AuditEvent<'a>>) -> Table {
     let columns = vec![
-        times("occurred_at"),
+        clock_times("occurred_at"),
         column("action"),
         below("outcome"),
         column("id"),
@@ -192,7 +192,7 @@ fn summed(summary: Option<Summary>, suppressed: u64) -> Table {
 
 #[cfg(test)]
 mod tests {
-    use super::{alarms, off_page, times, Zone};
+    use super::{alarms, clock_times, off_page, Zone};
     use crate::ruled::PAGE_WIDTH;
     use alarm_register::{Alarm, Key, Object, Severity, State, Time};
 
@@ -217,7 +217,8 @@ mod tests {
             details: None,
             raises: u32::MAX,
         };
-        let table = alarms("active", "T", [times("raised_at"), off_page("updated_at")], Zone::default(), [alarm].into_iter());
+        let table =
+            alarms("active", "T", [clock_times("raised_at"), off_page("updated_at")], Zone::default(), [alarm].into_iter());
         let page = table.ruled();
         assert!(page.lines().all(|line| line.chars().count() <= PAGE_WIDTH), "{page}");
         assert_eq!(page.lines().filter(|line| line.ends_with("│ 4294967295")).count(), 1, "{page}");

@@ -19,8 +19,9 @@ use Rattle.definition.specs.Numbers.{callRefusals, Among}
 abbrev pub Time : ℕ → Type 0
 Time t = t < 18446744073709551616
 
-abbrev pub Count : ℕ → Type 0
-Count n = n < 4294967296
+-- M-100: "a u32"
+abbrev pub Raises : ℕ → Type 0
+Raises n = n < 4294967296
 
 abbrev pub Maybe : {A : Type 0} → (A → Type 0) → Option A → Type 0
 Maybe P none = Unit {0}
@@ -78,7 +79,7 @@ pub record LegalAlarm (top : ℕ) (a : Alarm) : Type 0 where
   pub updatedAt : Time (a .updatedAt)
   pub clearedAt : Maybe Time (a .clearedAt)
   pub key : KeyOf (a .key)
-  pub raises : Count (a .raises)
+  pub raises : Raises (a .raises)
 
 abbrev pub LegalScope : ScopeValue → Type 0
 LegalScope (ScopeValue.alarmScope s) = TextOf shortLimit s

@@ -15,7 +15,7 @@ use Rattle.definition.specs.Cause.{stored}
 use Rattle.definition.specs.Value.{ObjectValue, ScopeValue}
 use Rattle.definition.specs.Slot.{Slot, string, option}
 use Rattle.definition.specs.Record.{isRegion, anyBytes, short, causeSlot, regionSlot, detailsSlot, objectOk, scopeOk}
-use Rattle.definition.specs.Contracts.LegalFields.{Time, Count, Maybe, BlobOf, TextOf, CauseOf, ObjectOf, LegalScope}
+use Rattle.definition.specs.Contracts.LegalFields.{Time, Raises, Maybe, BlobOf, TextOf, CauseOf, ObjectOf, LegalScope}
 
 -- the test t says P
 pub record Says (t : Bool) (P : Type 0) : Type 0 where
@@ -96,5 +96,5 @@ says-scope ScopeValue.globalScope = always
 pub says-time : (t : ℕ) → Says (ltb t (256 ^ 8)) (Time t)
 says-time t = says-lt t 18446744073709551616
 
-pub says-count : (n : ℕ) → Says (ltb n (256 ^ 4)) (Count n)
-says-count n = says-lt n 4294967296
+pub says-raises : (n : ℕ) → Says (ltb n (256 ^ 4)) (Raises n)
+says-raises n = says-lt n 4294967296

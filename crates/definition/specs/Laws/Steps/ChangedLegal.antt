@@ -12,7 +12,7 @@ use Rattle.definition.specs.Limits.{textLimit, detailsLimit}
 use Rattle.definition.specs.Value.{RaiseValue, PolicyValue, Action, acknowledging, suppressing}
 use Rattle.definition.specs.Alarm.{Alarm, changed, before, late}
 use Rattle.definition.specs.Steps.{updatedState, oneMoreRaise, updatedBy, newAlarm, clearedBy, actionState, actionByte, actedOn, eventOf, expiredBy}
-use Rattle.definition.specs.Contracts.LegalFields.{Time, Count, Maybe, BlobOf, TextOf, KeyOf, LegalAlarm, LegalEvent, LegalRaise, LegalPolicy}
+use Rattle.definition.specs.Contracts.LegalFields.{Time, Raises, Maybe, BlobOf, TextOf, KeyOf, LegalAlarm, LegalEvent, LegalRaise, LegalPolicy}
 
 late-time : (t u : ℕ) → Time t → Time u → Time (late t u)
 unfolding late
@@ -27,7 +27,7 @@ late-time t u p q = go (before t u)
 -- legal values of the fields that steps change keep an alarm legal; the state may be of another chain
 pub changed-legal :
     {top last v x u n : ℕ} {s : Bytes} {d : Option Bytes} {c : Option ℕ} (a : Alarm) → LegalAlarm top a →
-    v ≤ 5 → TextOf textLimit s → Maybe (BlobOf detailsLimit) d → x ≤ last → Time u → Maybe Time c → Count n →
+    v ≤ 5 → TextOf textLimit s → Maybe (BlobOf detailsLimit) d → x ≤ last → Time u → Maybe Time c → Raises n →
     LegalAlarm last (changed a v s d x u c n)
 changed-legal a p severity text details state updated cleared raises = record {
   id = p .id;
@@ -54,18 +54,18 @@ updatedState-active n h = go (leb n 1)
     go true = omega arith
     go false = h
 
--- held: it stays a count, whatever was counted before
-oneMoreRaise-count : (n : ℕ) → Count (oneMoreRaise n)
+-- held: they stay legal, whatever was counted before
+oneMoreRaise-legal : (n : ℕ) → Raises (oneMoreRaise n)
 unfolding oneMoreRaise
-oneMoreRaise-count n = go (ltb n 4294967295) _ _ (λ e. omega (arith, ltb-true n 4294967295 e)) (omega arith)
+oneMoreRaise-legal n = go (ltb n 4294967295) _ _ (λ e. omega (arith, ltb-true n 4294967295 e)) (omega arith)
   where
-    go : (b : Bool) (x y : ℕ) → (b ≡ true → Count x) → Count y → Count (cond b x y)
+    go : (b : Bool) (x y : ℕ) → (b ≡ true → Raises x) → Raises y → Raises (cond b x y)
     go true x y p q = p refl
     go false x y p q = q
 
 pub updated-legal : (c : RaiseValue) (a : Alarm) → LegalRaise c → LegalAlarm 3 a → LegalAlarm 3 (updatedBy c a)
 unfolding updatedBy
-updated-legal c a r p = changed-legal a p (r .severity) (r .text) (r .details) (updatedState-active (a .state) (p .state)) (late-time (c .head .time) (a .raisedAt) (r .time) (p .raisedAt)) (p .clearedAt) (oneMoreRaise-count (a .raises))
+updated-legal c a r p = changed-legal a p (r .severity) (r .text) (r .details) (updatedState-active (a .state) (p .state)) (late-time (c .head .time) (a .raisedAt) (r .time) (p .raisedAt)) (p .clearedAt) (oneMoreRaise-legal (a .raises))
 
 pub new-legal : (c : RaiseValue) (k : Bytes) → LegalRaise c → KeyOf k → LegalAlarm 3 (newAlarm c k)
 unfolding newAlarm

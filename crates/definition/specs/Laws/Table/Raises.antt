@@ -17,7 +17,7 @@ use Rattle.definition.specs.Station.{Station, fresh, withActive, changeA
 use Rattle.definition.specs.Perform.{perform}
 use Rattle.definition.specs.Sound.{encode}
 use Rattle.definition.specs.Lists.{Reply, run}
-use Rattle.definition.specs.Contracts.LegalFields.{Count, Each, LegalAlarm}
+use Rattle.definition.specs.Contracts.LegalFields.{Raises, Each, LegalAlarm}
 use Rattle.definition.specs.Contracts.LegalStation.{LegalStation}
 use Rattle.definition.specs.Laws.Steps.ChangedLegal.{changed-legal}
 use Rattle.definition.specs.Laws.Steps.LegalMoves.{ended, changeActive-legal}
@@ -49,8 +49,10 @@ pub record RaisesCounted : Type 0 where
   pub exceeded : raisesBehind (once ∷ raise 0 "b" "b" ∷ raise 0 "c" "c" ∷ []) ≡ (answered 1 ∷ answered 1 ∷ answered 5 ∷ [], (1 ∷ 1 ∷ [], 1 ∷ 1 ∷ []))
   -- nor does a raise that is refused for its id
   pub refused : raisesBehind (once ∷ raise 0 "a" "b" ∷ []) ≡ (answered 1 ∷ (31, none) ∷ [], (1 ∷ [], 1 ∷ []))
-  -- an action counts nothing. Updated is an answer: where the state stays 2 or 3 it counts too, and the entry of the action is overwritten
-  pub acted :
+  -- an action counts nothing
+  pub acted : raisesBehind (once ∷ acknowledge "a" 1 ∷ suppress "a" 1 ∷ []) ≡ (answered 1 ∷ answered 7 ∷ answered 6 ∷ [], (1 ∷ [], 1 ∷ 1 ∷ 1 ∷ []))
+  -- Updated is an answer: where the state stays 2 or 3 it counts too, and the entry of the action is overwritten
+  pub stayed :
       raisesBehind (once ∷ acknowledge "a" 1 ∷ once ∷ suppress "a" 1 ∷ once ∷ [])
       ≡ (answered 1 ∷ answered 7 ∷ answered 2 ∷ answered 6 ∷ answered 2 ∷ [], (3 ∷ [], 1 ∷ 2 ∷ 3 ∷ []))
   -- an expiry keeps the raises
@@ -93,6 +95,7 @@ raises-counted =
       exceeded = computes _ tt refl;
       refused = computes _ tt refl;
       acted = computes _ tt refl;
+      stayed = computes _ tt refl;
       expired = computes _ tt refl;
       anew = computes _ tt refl;
       masked = by-stations (λ (q : List Reply). raisesOn (maskRegister (left q))) _ tt refl;
@@ -101,14 +104,14 @@ raises-counted =
 -- ---- the register given is a legal station's
 
 -- the first of some active alarms with other raises
-unfoldable recounted : ℕ → List (Entry Alarm) → Station → Station
-recounted n [] s = s
-recounted n (e ∷ c) s = withActive (replaced (e .index) (withRaises n (e .content)) (s .active)) (s .free) s
+unfoldable withFirstRaises : ℕ → List (Entry Alarm) → Station → Station
+withFirstRaises n [] s = s
+withFirstRaises n (e ∷ c) s = withActive (replaced (e .index) (withRaises n (e .content)) (s .active)) (s .free) s
 
-recounted-legal : (n : ℕ) → Count n → (c : List (Entry Alarm)) → Each (LegalAlarm 3) c → (s : Station) → LegalStation s → LegalStation (recounted n c s)
-unfolding recounted changeActive
-recounted-legal n k [] h s l = l
-recounted-legal n k (e ∷ c) h s l =
+withFirstRaises-legal : (n : ℕ) → Raises n → (c : List (Entry Alarm)) → Each (LegalAlarm 3) c → (s : Station) → LegalStation s → LegalStation (withFirstRaises n c s)
+unfolding withFirstRaises changeActive
+withFirstRaises-legal n k [] h s l = l
+withFirstRaises-legal n k (e ∷ c) h s l =
     let p = h .0 in
     ended (changeActive-legal s l (e .index) (withRaises n (e .content))
     (changed-legal (e .content) p (p .severity) (p .text) (p .details) (p .state) (p .updatedAt) (p .clearedAt) k))
@@ -124,17 +127,17 @@ behind-legal =
     legal-after l (call-kept once 65536 (fresh 2 3 1) (octets once tt) l)
 
 abbrev forged : ℕ → Station
-forged n = recounted n (behind .active) behind
+forged n = withFirstRaises n (behind .active) behind
 
 again :
-    (n : ℕ) {x : List Told × ℕ} → Count n → given n ≡ encode (forged n) → there (encode (forged n)) (replies (forged n) (ample once ∷ [])) ≡ x → againFrom n ≡ x
+    (n : ℕ) {x : List Told × ℕ} → Raises n → given n ≡ encode (forged n) → there (encode (forged n)) (replies (forged n) (ample once ∷ [])) ≡ x → againFrom n ≡ x
 unfolding againFrom allOctets join digits
 again n k e h =
-    let l = recounted-legal n k (behind .active) (behind-legal .fields .active) behind behind-legal in
+    let l = withFirstRaises-legal n k (behind .active) (behind-legal .fields .active) behind behind-legal in
     rw (e, run-legal (ample once ∷ []) (forged n) l tt) h
 
 pub raises-held : RaisesHeld
-unfolding allOctets computed behind recounted splice
+unfolding allOctets computed behind withFirstRaises splice
 raises-held =
     let is : (n : ℕ) → splice (left (computed (ample once ∷ []))) 2987 (be32 n) ≡ encode (forged n) → given n ≡ encode (forged n) =
     λ n e. by-stations (λ (q : List Reply). splice (left q) 2987 (be32 n)) (once ∷ []) tt e in
