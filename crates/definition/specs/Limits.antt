@@ -1,4 +1,4 @@
--- "Longest, in bytes": the limits of a call's and a record's strings, and the width of a record.
+-- "Longest, in bytes": the limits of a call's and a record's strings, and the width of a record. One limit is in code points.
 use Prim.Native.Nat.{ℕ}
 
 abbrev pub recordWidth : ℕ
@@ -21,3 +21,7 @@ textLimit = 256
 
 abbrev pub detailsLimit : ℕ
 detailsLimit = 512
+
+-- M-104: "A raise's text has at most 120 code points and still at most 256 bytes"
+abbrev pub codePointLimit : ℕ
+codePointLimit = 120

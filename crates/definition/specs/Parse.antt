@@ -6,7 +6,8 @@ use mathlib.Core.Bool.{Bool, true, false, cond, _||_}
 use mathlib.Core.Option.{Option, none, some}
 use lib.Dec.{leb, eqb}
 use Rattle.octets.specs.Bytes.{Bytes}
-use Rattle.definition.specs.Limits.{shortLimit, regionLimit, textLimit, detailsLimit}
+use Rattle.definition.specs.Limits.{shortLimit, regionLimit, textLimit, detailsLimit, codePointLimit}
+use Rattle.definition.specs.Utf8.{codePoints, atMost}
 use Rattle.definition.specs.Reader.{Out, got, bad, Reader, _>>=_, give, refuse, into, number, choice, blob, text, optional, causeText}
 use Rattle.definition.specs.Value.{ObjectValue, PlacesValue, KeyValue, RaiseHeadValue, RaiseValue, ClearValue, PlainValue, ScopeValue, ActorValue, RequestValue, VerdictValue, PolicyValue, CallValue, acknowledging, suppressing}
 
@@ -92,10 +93,17 @@ key = do
   p ← places
   give (record { cause = c; object = o; places = p })
 
+-- M-104: "A raise's text has at most 120 code points and still at most 256 bytes"; 33: "a raise whose well-formed text has more than 120 code
+-- points, directly after 27 for that field"
+unfoldable pub raiseText : Reader Bytes
+raiseText = do
+  t ← text textLimit
+  cond (atMost codePointLimit (codePoints t)) (give t) (refuse 33)
+
 -- text, details?
 unfoldable pub raiseBody : RaiseHeadValue → KeyValue → Reader RaiseValue
 raiseBody h k = do
-  t ← text textLimit
+  t ← raiseText
   d ← optional (blob detailsLimit)
   give (record { head = h; key = k; text = t; details = d })
 

@@ -73,10 +73,19 @@ rowsFrom n [] = some 0
 rowsFrom (suc n) (b ∷ s) = rowsFrom n s
 rowsFrom zero (b ∷ s) = cond (eqb (character (b ∷ s)) 0) none (oneMore (rowsFrom (pred (character (b ∷ s))) s))
 
+-- M-104: "answers the number of code points as well as yes or no": how many rows s is a run of, none where it is no run
+abbrev pub codePoints : Bytes → Option ℕ
+codePoints s = rowsFrom 0 s
+
 abbrev pub isRun : Option ℕ → Bool
 isRun none = false
 isRun (some n) = true
 
 -- M-101: "A string is accepted exactly if it is a run of those rows"
 unfoldable pub utf8 : Bytes → Bool
-utf8 s = isRun (rowsFrom 0 s)
+utf8 s = isRun (codePoints s)
+
+-- a run of at most n rows
+abbrev pub atMost : ℕ → Option ℕ → Bool
+atMost n none = false
+atMost n (some k) = leb k n

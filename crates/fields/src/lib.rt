@@ -15,7 +15,9 @@ use model::Span;
 ghost use mathlib.Core.Path.{_≡_};
 ghost use Prim.Native.Nat.{_+_, _^_, _≤_, _<_};
 ghost use lib.ListN.{length};
+ghost use Rattle.definition.specs.Limits.{textLimit};
 ghost use Rattle.definition.specs.Reader.{bytes, number, choice, text, optional, causeText};
+ghost use Rattle.definition.specs.Parse.{raiseText};
 ghost use Rattle.model.specs.Meaning.{causePart, causeWithin};
 ghost use Rattle.fields.specs.Cursor.{refusedUnless, bytesFrom, Reads, Says, SaysString, SaysOption};
 ghost use Rattle.fields.specs.Part.{reached};
@@ -28,6 +30,7 @@ pub use part::read_cause;
 pub use part::read_choice;
 pub use part::read_number;
 pub use part::read_option;
+pub use part::read_raise_text;
 pub use part::read_text;
 
 // Where the reading of a slice stands: at a place, or at its first fault, by its number.
@@ -208,6 +211,20 @@ pub fn text_at(call: &[u8], at: Cursor, limit: usize) -> SpanRead
     ensures { λ r. ⌜ SaysString (now (call .entry)) at (text limit) limit r ⌝ }
 {
     string_at(call, at, limit, StringKind::Text)
+}
+
+// A raise's text: a string in UTF-8 of at most 120 code points.
+pub fn raise_text_at(call: &[u8], at: Cursor) -> SpanRead
+    ensures { λ r. ⌜ SaysString (now (call .entry)) at raiseText textLimit r ⌝ }
+{
+    let i = start(call, at);
+    let r = read_raise_text(&call[i..]);
+    let p = r.span;
+    let next = r.next;
+    SpanRead {
+        span: span_on(p, i),
+        next: cursor_on(at, i, next),
+    }
 }
 
 // An optional string: byte 0, or byte 1 and the string.

@@ -23,7 +23,9 @@ ghost use mathlib.Core.Path.{_≡_};
 ghost use mathlib.Core.Bool.{_&&_};
 ghost use Prim.Native.Nat.{_^_, _≤_, _<_};
 ghost use lib.Dec.{leb};
+ghost use Rattle.definition.specs.Limits.{textLimit};
 ghost use Rattle.definition.specs.Reader.{bytes, number, choice, blob, text, optional, causeText};
+ghost use Rattle.definition.specs.Parse.{raiseText};
 ghost use Rattle.model.specs.Meaning.{causePart, causeWithin};
 ghost use Rattle.fields.specs.Part.{Takes, TakesIn, TakesString, TakesOption};
 ghost use Rattle.fields.specs.StringKind.{obeyed, stringBy};
@@ -99,7 +101,7 @@ fn obeys(string: &[u8], kind: StringKind) -> bool
     ensures { λ r. ⌜ r ≡ obeyed kind (now (string .entry)) ⌝ }
 {
     match kind {
-        StringKind::Text => utf8::is_utf8(string),
+        StringKind::Text => utf8::is_well_formed(utf8::check(string)),
         StringKind::Blob => true,
     }
 }
@@ -122,6 +124,21 @@ pub fn read_text(left: &[u8], limit: usize) -> SpanRead
     ensures { λ r. ⌜ TakesString (now (left .entry)) (text limit) limit r ⌝ }
 {
     read_string(left, limit, StringKind::Text)
+}
+
+// A raise's text: a string in UTF-8 of at most 120 code points. One check of its bytes tells both.
+pub fn read_raise_text(left: &[u8]) -> SpanRead
+    ensures { λ r. ⌜ TakesString (now (left .entry)) raiseText textLimit r ⌝ }
+{
+    let b = read_blob(left, Record::TEXT);
+    let p = b.span;
+    let next = b.next;
+    let form = utf8::check(model::part(left, p));
+    let next = refuse_unless(next, utf8::is_well_formed(form), 27);
+    SpanRead {
+        span: p,
+        next: refuse_unless(next, utf8::has_at_most(form, Record::TEXT_CODE_POINTS), 33),
+    }
 }
 
 // An optional string: byte 0, or byte 1 and the string.

@@ -102,7 +102,7 @@ fn body_at(call: &[u8], at: Cursor, head: RaiseHead, key: KeyFields) -> RaiseRea
         (r .raise)
         (r .next) ⌝ }
 {
-    let text = fields::text_at(call, at, Record::TEXT);
+    let text = fields::raise_text_at(call, at);
     let at = text.next;
     let text = text.span;
     let details = fields::option_at(call, at, Record::DETAILS, StringKind::Blob);

@@ -1,11 +1,20 @@
--- What the contracts say: strings of ASCII and of tails, a row behind its first byte, and how far a run goes on at once.
+-- What the contracts say: the answer's number of code points, strings of ASCII and of tails, a row behind its first byte, and how far a run
+-- goes on at once.
 use Prim.Native.Nat.{ℕ, _-_}
 use mathlib.Core.List.{[], _∷_}
 use mathlib.Core.Bool.{Bool, true, cond, _&&_}
+use mathlib.Core.Option.{Option, none, some}
 use lib.Dec.{ltb, leb}
 use lib.ListN.{length, take, drop, replicate}
 use Rattle.octets.specs.Bytes.{Bytes}
 use Rattle.definition.specs.Utf8.{Range, Row, inside, tail, fits, character}
+use Rattle.utf8.specs.declared.Form.{Form}
+use Rattle.utf8.specs.declared.Form.the-variants.{WellFormed, IllFormed}
+
+-- how many code points each answer tells: those of the definition's `codePoints`
+abbrev pub counted : Form → Option ℕ
+counted (WellFormed n) = some n
+counted IllFormed = none
 
 -- all bytes are below 128: ASCII
 unfoldable pub plain : Bytes → Bool
@@ -29,6 +38,10 @@ secondThenTails n r = r ∷ replicate (n - 2) tail
 unfoldable pub rowWidth : ℕ → Range → Bytes → ℕ
 rowWidth n r s = cond (fits (secondThenTails n r) (drop 1 s)) n 0
 
--- how many bytes at the front of s are whole characters: eight of ASCII, else those of the first character, 0 where it begins with none
-unfoldable pub ahead : Bytes → ℕ
-ahead s = cond (startsPlain s) 8 (character s)
+-- whole characters at the front of s, their bytes: eight of ASCII, else those of the first character, 0 where it begins with none
+unfoldable pub bytesAhead : Bytes → ℕ
+bytesAhead s = cond (startsPlain s) 8 (character s)
+
+-- and how many they are
+unfoldable pub rowsAhead : Bytes → ℕ
+rowsAhead s = cond (startsPlain s) 8 1

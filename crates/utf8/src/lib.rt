@@ -1,13 +1,39 @@
-// UTF-8 by RFC 3629, section 4: which byte strings are well formed.
+// UTF-8 by RFC 3629, section 4: which byte strings are well formed, and how many code points they have.
 //
 // `character` is that section's syntax: a case for each of its rows, in its order, by the first byte and the range of
-// the second. A string is well formed if it is a run of characters (`utf8` in definition, specs/Utf8.antt). Most
-// strings are ASCII, and so are most bytes of the others: a string of ASCII is seen at once by `is_utf8`, and between
-// other letters ASCII is passed eight bytes at a time.
+// the second. A string is well formed if it is a run of characters, and each is a code point (`codePoints` in
+// definition, specs/Utf8.antt). Most strings are ASCII, and so are most bytes of the others: a string of ASCII is seen
+// at once by `check`, and between other letters ASCII is passed eight bytes at a time.
 ghost use mathlib.Core.Path.{_≡_};
 ghost use Prim.Native.Nat.{_≤_};
-ghost use Rattle.definition.specs.Utf8.{_–_, tail, character as theCharacter, utf8};
-ghost use Rattle.utf8.specs.Meaning.{plain, startsPlain, allInside, rowWidth, ahead as theAhead};
+ghost use Rattle.definition.specs.Utf8.{_–_, tail, character as theCharacter, codePoints, isRun, atMost};
+ghost use Rattle.utf8.specs.Meaning.{plain, startsPlain, allInside, rowWidth, bytesAhead, rowsAhead, counted};
+
+// What the check answers: well formed, with the number of code points; or not.
+pub enum Form {
+    WellFormed(usize),
+    IllFormed,
+}
+
+// Yes or no.
+pub fn is_well_formed(form: Form) -> bool
+    ensures { λ r. ⌜ r ≡ isRun (counted form) ⌝ }
+{
+    match form {
+        Form::WellFormed(_) => true,
+        Form::IllFormed => false,
+    }
+}
+
+// Whether a string of this form is well formed and has at most n code points.
+pub fn has_at_most(form: Form, n: usize) -> bool
+    ensures { λ r. ⌜ r ≡ atMost n (counted form) ⌝ }
+{
+    match form {
+        Form::WellFormed(k) => k <= n,
+        Form::IllFormed => false,
+    }
+}
 
 // Whether all bytes of s are tails.
 fn are_tails(s: &[u8]) -> bool
@@ -101,38 +127,48 @@ fn starts_plain(s: &[u8]) -> bool
     is_ascii(&s[..8])
 }
 
-// How many bytes at the front of s are whole characters: eight where these are ASCII, else those of the first
-// character; 0 where s begins with none.
-fn ahead(s: &[u8]) -> usize
-    ensures { λ r. ⌜ r ≡ theAhead (now (s .entry)) ⌝ }
+// Whole characters at the front of a string: their bytes, 0 where it begins with none, and how many they are.
+struct Front {
+    bytes: usize,
+    rows: usize,
+}
+
+// Eight characters where these are ASCII, else the first one.
+fn ahead(s: &[u8]) -> Front
+    ensures { λ r. ⌜ (r .bytes ≡ bytesAhead (now (s .entry))) × (r .rows ≡ rowsAhead (now (s .entry))) ⌝ }
 {
     if starts_plain(s) {
-        return 8;
+        return Front { bytes: 8, rows: 8 };
     }
-    character(s)
+    Front {
+        bytes: character(s),
+        rows: 1,
+    }
 }
 
-// Whether s is UTF-8: a run of characters, UTF8-octets = *( UTF8-char ).
-pub fn is_run(s: &[u8]) -> bool
-    ensures { λ r. ⌜ r ≡ utf8 (now (s .entry)) ⌝ }
+// The form of s: whether it is a run of characters, UTF8-octets = *( UTF8-char ), and of how many.
+pub fn check_run(s: &[u8]) -> Form
+    ensures { λ r. ⌜ counted r ≡ codePoints (now (s .entry)) ⌝ }
 {
+    let mut rows = 0;
     let mut i = 0;
     while i < s.len() {
-        let n = ahead(&s[i..]);
-        if n == 0 {
-            return false;
+        let next = ahead(&s[i..]);
+        if next.bytes == 0 {
+            return Form::IllFormed;
         }
-        i += n;
+        rows += next.rows;
+        i += next.bytes;
     }
-    true
+    Form::WellFormed(rows)
 }
 
-// Whether s is UTF-8, quicker than `is_run` where s may well be ASCII.
-pub fn is_utf8(s: &[u8]) -> bool
-    ensures { λ r. ⌜ r ≡ utf8 (now (s .entry)) ⌝ }
+// The same, quicker than `check_run` where s may well be ASCII.
+pub fn check(s: &[u8]) -> Form
+    ensures { λ r. ⌜ counted r ≡ codePoints (now (s .entry)) ⌝ }
 {
     if is_ascii(s) {
-        return true;
+        return Form::WellFormed(s.len());
     }
-    is_run(s)
+    check_run(s)
 }

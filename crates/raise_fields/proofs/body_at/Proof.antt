@@ -9,7 +9,7 @@ returns : tie.Need-returns
 unfolding raiseBody
 returns c =
     let pre = c .before .before .before .before .pre in
-    let text = c .before .before .text-at .ensures in
+    let text = c .before .before .raise-text-at .ensures in
     let details = c .option-at .ensures in
     (step _ (text .0) (step _ (details .0) done), record { head = pre .0; key = pre .1; text = text .1; details = details .1 })
 

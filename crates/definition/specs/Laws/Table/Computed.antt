@@ -11,7 +11,7 @@ use Rattle.definition.specs.White.{space, frontOf, startFrom, endFrom, t
 use Rattle.definition.specs.Cause.{oneOf, causeOf, dotted, segments, hasDot, allFull}
 use Rattle.definition.specs.Reader as Reader
 use Rattle.definition.specs.Reader.{into, bytes, number, choice, blob, text, optional, causeText}
-use Rattle.definition.specs.Parse.{pair, objectOf, object, scopeOf, scope, raiseHead, places, key, raiseBody, raiseFields, clearFields, plainFields, actor, request, verdict, policyFields, fieldsOf, parseCall}
+use Rattle.definition.specs.Parse.{pair, objectOf, object, scopeOf, scope, raiseHead, places, key, raiseText, raiseBody, raiseFields, clearFields, plainFields, actor, request, verdict, policyFields, fieldsOf, parseCall}
 use Rattle.definition.specs.Chain.{those, first, newest, without, replaced, firstOf}
 use Rattle.definition.specs.Alarm.{before, late, sameNames, sameKey, sameIdentity, isCritical}
 use Rattle.definition.specs.Slot.{join}
@@ -30,7 +30,7 @@ keyed type k = hex (keyOf type k)
 
 -- a call's bytes; operations 8 to 12 are not opened
 unfoldable pub parsed : Bytes → CallValue
-unfolding join digits valueFrom same begins fits widthIn character rowsFrom utf8 space frontOf startFrom endFrom trim hasSpace oneOf causeOf dotted segments hasDot allFull Reader._>>=_ into bytes number choice blob text optional causeText pair objectOf object scopeOf scope raiseHead places key raiseBody raiseFields clearFields plainFields actor request verdict policyFields fieldsOf parseCall
+unfolding join digits valueFrom same begins fits widthIn character rowsFrom utf8 space frontOf startFrom endFrom trim hasSpace oneOf causeOf dotted segments hasDot allFull Reader._>>=_ into bytes number choice blob text optional causeText pair objectOf object scopeOf scope raiseHead places key raiseText raiseBody raiseFields clearFields plainFields actor request verdict policyFields fieldsOf parseCall
 parsed c = parseCall c
 
 -- a step and its answer's bytes; keys, and operations 8 to 12, are not opened

@@ -11,13 +11,13 @@ use borrow.Author.Tests.{leb-true}
 use Rattle.octets.specs.Bytes.{Bytes, Octets}
 use Rattle.octets.specs.BoolLaws.{both-right, holds, true-holds}
 use Rattle.octets.specs.NumberLaws.{octets-take, octets-drop, value-lt}
-use Rattle.definition.specs.Limits.{shortLimit, causeLimit, regionLimit, textLimit, detailsLimit}
-use Rattle.definition.specs.Utf8.{utf8}
+use Rattle.definition.specs.Limits.{shortLimit, causeLimit, regionLimit, textLimit, detailsLimit, codePointLimit}
+use Rattle.definition.specs.Utf8.{utf8, codePoints, atMost}
 use Rattle.definition.specs.Cause.{causeOf}
 use Rattle.definition.specs.Laws.Text.Cause.{cause-stored, cause-length, cause-utf8}
 use Rattle.definition.specs.Value.{ObjectValue, PlacesValue, KeyValue, RaiseHeadValue, ScopeValue, ActorValue, RequestValue}
 use Rattle.definition.specs.Reader.{Out, got, bad, Reader, next, _>>=_, give, refuse, into, bytes, number, choice, blob, text, optional, causeIs, causeText}
-use Rattle.definition.specs.Parse.{pair, sessionStore, dataPlaneQueue, objectOf, object, scopeOf, scope, raiseHead, places, key, raiseBody, named, raiseFields, clearFields, plainFields, actor, request, verdict, policyFields, severityOrAll}
+use Rattle.definition.specs.Parse.{pair, sessionStore, dataPlaneQueue, objectOf, object, scopeOf, scope, raiseHead, places, key, raiseText, raiseBody, named, raiseFields, clearFields, plainFields, actor, request, verdict, policyFields, severityOrAll}
 use Rattle.definition.specs.Numbers.{callRefusals, Among}
 use Rattle.definition.specs.Contracts.LegalFields.{Time, Maybe, BlobOf, TextOf, CauseOf, ObjectOf, LegalKey, LegalScope, LegalRaise, LegalPolicy}
 
@@ -203,10 +203,15 @@ head-reads =
     bind-reads _ _ (number-reads 8) (λ t pt. bind-reads _ _ (text-reads shortLimit) (λ i pi. bind-reads _ _ (text-reads shortLimit) (λ y py.
     bind-reads _ _ (choice-reads 0 5) (λ v pv. give-reads ReadHead _ (record { time = pt; id = pi; type = py; severity = pv })))))
 
+raiseText-reads : Reads (TextOf textLimit) raiseText
+unfolding raiseText
+raiseText-reads =
+    bind-reads _ _ (text-reads textLimit) (λ t p. if-reads (atMost codePointLimit (codePoints t)) _ _ (λ e. give-reads (TextOf textLimit) t p) (λ e. refuse-reads 33 tt))
+
 body-reads : (h : RaiseHeadValue) (k : KeyValue) → ReadHead h → LegalKey k → Reads LegalRaise (raiseBody h k)
 unfolding raiseBody
 body-reads h k ph pk =
-    bind-reads _ _ (text-reads textLimit) (λ x px. bind-reads _ _ (optional-reads (BlobOf detailsLimit) _ (blob-reads detailsLimit)) (λ d pd.
+    bind-reads _ _ raiseText-reads (λ x px. bind-reads _ _ (optional-reads (BlobOf detailsLimit) _ (blob-reads detailsLimit)) (λ d pd.
     give-reads LegalRaise _ (record { time = ph .time; id = ph .id; type = ph .type; severity = ph .severity; key = pk; text = px; details = pd })))
 
 pub raise-reads : Reads LegalRaise raiseFields

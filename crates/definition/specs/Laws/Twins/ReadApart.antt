@@ -8,10 +8,10 @@ use native.Mathlib.Nat.{zero-add}
 use lib.ListN.{length}
 use borrow.Author.Tests.{le-leb}
 use Rattle.octets.specs.Bytes.{Bytes, valueFrom}
-use Rattle.definition.specs.Limits.{shortLimit, textLimit, detailsLimit}
+use Rattle.definition.specs.Limits.{shortLimit, detailsLimit}
 use Rattle.definition.specs.Value.{RaiseHeadValue, KeyValue, RaiseValue, CallValue}
 use Rattle.definition.specs.Reader.{Out, got, bad, Reader, next, _>>=_, give, refuse, into, bytes, number, choice, blob, text, optional}
-use Rattle.definition.specs.Parse.{raiseHead, key, raiseBody, named, raiseFields, fieldsOf, whole, parseCall}
+use Rattle.definition.specs.Parse.{raiseHead, key, raiseText, raiseBody, named, raiseFields, fieldsOf, whole, parseCall}
 use Rattle.definition.specs.Reach.{beforeSeverity, SeverityApart}
 use Rattle.definition.specs.Laws.Twins.ReadTwins.{next-assoc, Local, give-local, bind-local, number-local, text-local, elsewhere}
 use Rattle.definition.specs.Laws.Twins.NearSteps.{raiseWith}
@@ -76,7 +76,7 @@ module _ (v v′ : ℕ) where
   behind-apart f u = then-read (key u) _ _ (λ k w. go k w (named (k .places .region)))
     where
       go : (k : KeyValue) (w : Bytes) (b : Bool) → BothRead RaisesApart (cond b (raiseBody (headWith f v) k) (refuse 29) w) (cond b (raiseBody (headWith f v′) k) (refuse 29) w)
-      go k w true = then-read (text textLimit w) _ _ (λ t x. then-read (optional (blob detailsLimit) x) _ _ (λ d y. read (refl, refl)))
+      go k w true = then-read (raiseText w) _ _ (λ t x. then-read (optional (blob detailsLimit) x) _ _ (λ d y. read (refl, refl)))
       go k w false = faulty
 
   as-raises : {o o′ : Out RaiseValue} → BothRead RaisesApart o o′ → ReadApart v v′ (asRaise o) (asRaise o′)

@@ -11,12 +11,12 @@ use lib.ListN.{length, take, drop, length-append, length-take, take-append-drop}
 use lib.Seq.{take-at, drop-at}
 use borrow.Author.Tests.{leb-true, le-leb}
 use Rattle.octets.specs.Bytes.{Bytes, value}
-use Rattle.definition.specs.Limits.{shortLimit, causeLimit, regionLimit, textLimit, detailsLimit}
+use Rattle.definition.specs.Limits.{shortLimit, causeLimit, regionLimit, detailsLimit}
 use Rattle.definition.specs.Utf8.{utf8}
 use Rattle.definition.specs.Cause.{causeOf}
 use Rattle.definition.specs.Value.{ObjectValue, KeyValue, RaiseHeadValue, RaiseValue, CallValue}
 use Rattle.definition.specs.Reader.{Out, got, bad, Reader, next, _>>=_, give, refuse, into, bytes, number, choice, blob, text, optional, causeIs, causeText}
-use Rattle.definition.specs.Parse.{name, pair, sessionStore, dataPlaneQueue, objectOf, object, raiseHead, places, key, raiseBody, named, raiseFields, fieldsOf, whole, parseCall}
+use Rattle.definition.specs.Parse.{name, pair, sessionStore, dataPlaneQueue, objectOf, object, raiseHead, places, key, raiseText, raiseBody, named, raiseFields, fieldsOf, whole, parseCall}
 use Rattle.definition.specs.Laws.Twins.TwinSteps.{TwinCalls, alike, reworded}
 use Rattle.definition.specs.Twins.{beforeText, ReadRaise, TwinRaises, TwinCall, equal, raises}
 
@@ -186,7 +186,7 @@ data Holds (h : RaiseHeadValue) (k : KeyValue) : Out RaiseValue → Type 0 where
 
 body-holds : (h : RaiseHeadValue) (k : KeyValue) (s : Bytes) → Holds h k (raiseBody h k s)
 unfolding raiseBody _>>=_
-body-holds h k s = go (text textLimit s)
+body-holds h k s = go (raiseText s)
   where
     inner : (t : Bytes) (o : Out (Option Bytes)) → Holds h k (next o (λ d. give (record { head = h; key = k; text = t; details = d })))
     inner t (got d u) = held refl refl
