@@ -1,8 +1,9 @@
 #!/usr/bin/env python3
-"""Writes crates/utf8_vectors/stdin and stdout: strings to try, and which strings the program is to accept, by Python's UTF-8 decoder.
+"""Writes crates/utf8_vectors/stdin and stdout: strings to try, which of them the program is to accept, and how many code points it is to
+count, by Python's UTF-8 decoder.
 
-The rows of RFC 3629, section 4, say here where edges are, and so which strings are worth a try; the decoder alone says which are accepted.
-In stdin each text is a u16 length, big-endian, and its bytes: 20 of ASCII, a string, and 8 of ASCII.
+The rows of RFC 3629, section 4, say here where edges are, and so which strings are worth a try; the decoder alone says which are accepted,
+and of how many code points. In stdin each text is a u16 length, big-endian, and its bytes: 20 of ASCII, a string, and 8 of ASCII.
 """
 import itertools
 import sys
@@ -20,13 +21,17 @@ FIRSTS, LASTS = ([bytes(ends[k] for ends in row) for row in ROWS] for k in (0, 1
 BEFORE, BEHIND = 20, 8
 
 
+def code_points(s):
+    """How many code points s has, by Python; None where it is not UTF-8."""
+    try:
+        return len(s.decode("utf-8"))
+    except UnicodeDecodeError:
+        return None
+
+
 def accepted(s):
     """Whether s is UTF-8, by Python."""
-    try:
-        s.decode("utf-8")
-    except UnicodeDecodeError:
-        return False
-    return True
+    return code_points(s) is not None
 
 
 def edges(lo, hi):
@@ -104,12 +109,20 @@ def text(number, s):
     return ascii_bytes(BEFORE - 10, number) + ascii_bytes(10, number, b"\x00\x01 ?") + s + ascii_bytes(BEHIND, number)
 
 
+def by_part(whole, begin, out):
+    """How many code points the whole has, by a part: the part's, and one for each byte of ASCII left out; 0 where the part is not accepted."""
+    counted = code_points(whole[begin:len(whole) - out])
+    return 0 if counted is None else counted + begin + out
+
+
 def line(whole):
-    """A text's line: its string, and for each place up to it how many of nine ends of the text are accepted: all or none, so that the
-    number says it of each."""
-    counts = [sum(accepted(whole[begin:len(whole) - out]) for out in range(BEHIND + 1)) for begin in range(BEFORE + 1)]
-    assert set(counts) <= {0, BEHIND + 1}, f"{whole.hex()}: a number that does not say which"
-    return f"{whole[BEFORE:-BEHIND].hex()} {''.join(map(str, counts))}"
+    """A text's line: its string; for each place up to it how many of nine ends of the text are accepted, all or none, so that the number
+    says it of each; and the least and the greatest number of code points by these parts, the same, so that the two say it of each."""
+    places = [[by_part(whole, begin, out) for out in range(BEHIND + 1)] for begin in range(BEFORE + 1)]
+    digits = [sum(n > 0 for n in place) for place in places]
+    least, greatest = min(map(min, places)), max(map(max, places))
+    assert set(digits) <= {0, BEHIND + 1} and least == greatest, f"{whole.hex()}: numbers that do not say which"
+    return f"{whole[BEFORE:-BEHIND].hex()} {''.join(map(str, digits))} {least}-{greatest}"
 
 
 def main():

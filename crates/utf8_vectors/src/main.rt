@@ -1,14 +1,15 @@
-// Writes which byte strings the test of UTF-8 accepts. The expected output, the file `stdout`, is decided by another test, the decoder
-// of Python: `python3 tests/vectors/utf8.py` writes it, and `stdin`.
+// Writes which byte strings the check of UTF-8 accepts, and how many code points it counts. The expected output, the file `stdout`, is
+// decided by another check, the decoder of Python: `python3 tests/vectors/utf8.py` writes it, and `stdin`.
 //
 // The proof says that the code is the definition; this program holds both to the world outside, and shows the rows of RFC 3629,
 // section 4, as the code has them: for the empty string, the single bytes, and all pairs of a first and a second byte with each of 21
-// endings. Then it tries the strings of `stdin`, which lie at the rows' edges, at many places in ASCII.
+// endings. Then it tries the strings of `stdin`, which lie at the rows' edges, at many places in ASCII, and shows their code points too.
 ghost use mathlib.Core.Path.{_≡_};
 ghost use Prim.Native.Nat.{_+_, _≤_, _<_};
 ghost use lib.ListN.{length};
 use libc::STDIN_FILENO;
 use libc::STDOUT_FILENO;
+use utf8::Form;
 
 fn say(text: &[u8]) {
     io::write_all(STDOUT_FILENO, text);
@@ -28,11 +29,35 @@ fn show_byte(b: usize) {
     io::print_hex(STDOUT_FILENO, b as u64, 2);
 }
 
-// 1 for a string that is accepted, with and without a look for ASCII first.
+// ---- the check
+
+// Whether two answers are the same, the number of code points too.
+fn agree(a: Form, b: Form) -> bool {
+    match a {
+        Form::WellFormed(n) => match b {
+            Form::WellFormed(k) => n == k,
+            Form::IllFormed => false,
+        },
+        Form::IllFormed => !utf8::is_well_formed(b),
+    }
+}
+
+// The answer for s, with and without a look for ASCII first. Where the two differ, s is not accepted, and a `!` goes out, which is in no
+// expected output.
+fn answer(s: &[u8]) -> Form {
+    let quick = utf8::check(s);
+    if agree(quick, utf8::check_run(s)) {
+        return quick;
+    }
+    say(b"!");
+    Form::IllFormed
+}
+
+// 1 for a string that is accepted.
 fn mark(s: &[u8]) -> u8
     ensures { λ r. ⌜ r ≤ 1 ⌝ }
 {
-    if utf8::is_utf8(s) & utf8::is_run(s) {
+    if utf8::is_well_formed(answer(s)) {
         return 1;
     }
     0
@@ -180,6 +205,14 @@ const BEFORE: usize = 20;
 
 const BEHIND: usize = 8;
 
+// The ends of a text, with 0 to 8 bytes left out, and the parts: each end from each of 21 places on.
+const ENDS: usize = BEHIND + 1;
+
+const PARTS: usize = (BEFORE + 1) * ENDS;
+
+// More code points than any text has: its buffer has 4,096 bytes. A greater count is taken for this one, wrong as well, so that sums fit.
+const TOO_MANY: usize = 65536;
+
 fn show_hex(s: &[u8]) {
     let mut i = 0;
     while i < s.len() {
@@ -202,7 +235,55 @@ fn accepted(text: &[u8], from: usize) -> u64
     count
 }
 
-// A line for a text: its string, and a digit for each place up to it where the text can begin.
+fn lesser(a: usize, b: usize) -> usize
+    ensures { λ r. ⌜ r ≤ b ⌝ }
+{
+    if a < b {
+        return a;
+    }
+    b
+}
+
+fn greater(a: usize, b: usize) -> usize {
+    if a < b {
+        return b;
+    }
+    a
+}
+
+// How many code points the whole text has, by the check of a part: the part's, and one for each byte of ASCII left out, `from` before it
+// and `out` behind it. 0 where the part is not accepted.
+fn by_part(text: &[u8], from: usize, out: usize) -> usize
+    requires { ⌜ (from ≤ 20) × (out ≤ 8) × (from + out ≤ length (now text)) ⌝ }
+{
+    let e = text.len() - out;
+    let form = answer(&text[from..e]);
+    match form {
+        Form::WellFormed(n) => lesser(n, TOO_MANY) + from + out,
+        Form::IllFormed => 0,
+    }
+}
+
+// The least and the greatest of these numbers, by all 189 parts. By Python all are the same: where the two here are that number, each part's
+// count is Python's, and no wrong one can be made up for by another, as in a sum.
+fn show_code_points(text: &[u8])
+    requires { ⌜ 28 ≤ length (now text) ⌝ }
+{
+    let mut least = by_part(text, 0, 0);
+    let mut greatest = least;
+    let mut k = 1;
+    while k < PARTS {
+        let n = by_part(text, k / ENDS, k % ENDS);
+        least = lesser(least, n);
+        greatest = greater(greatest, n);
+        k += 1;
+    }
+    io::print_decimal(STDOUT_FILENO, least as u64);
+    say(b"-");
+    io::print_decimal(STDOUT_FILENO, greatest as u64);
+}
+
+// A line for a text: its string, a digit for each place up to it where the text can begin, and how many code points the text has.
 fn show_text(text: &[u8]) {
     if text.len() < BEFORE + BEHIND {
         return;
@@ -215,6 +296,8 @@ fn show_text(text: &[u8]) {
         io::print_decimal(STDOUT_FILENO, accepted(text, from));
         from += 1;
     }
+    say(b" ");
+    show_code_points(text);
     end_line();
 }
 

@@ -5,10 +5,10 @@ use Rattle.utf8_vectors.proofs.show_text.Statement.{statement}
 use Rattle.utf8_vectors.proofs.show_text.Tie as tie
 
 abbrev Inv-loop : tie.InvT-loop
-Inv-loop text e from₀ from = from ≤ 21
+Inv-loop text e from₀ t5 from = from ≤ 21
 
 abbrev μ-loop : tie.MeasureT-loop
-μ-loop text e from₀ from = 21 - from
+μ-loop text e from₀ t5 from = 21 - from
 
 pub show-text-spec : {M : Type 1} → statement M
 show-text-spec =
@@ -31,5 +31,8 @@ show-text-spec =
     (λ c. search needs)
     (λ c. search needs)
     (λ c. search needs)
+    (λ c. search needs)
+    (λ c κs. search needs)
+    (λ c κs. search needs)
     (λ c κs. search needs)
     (λ c. search needs))
