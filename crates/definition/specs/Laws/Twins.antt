@@ -5,6 +5,7 @@ pub mod TwinStations
 pub mod MaskRegister
 pub mod MaskAnswer
 pub mod ReadTwins
+pub mod TextLimits
 pub mod ClaimHolds
 pub mod BalanceHolds
 pub mod NearStations

@@ -1,5 +1,5 @@
 -- The bytes of the table's calls, field by field as "The call enters" lists them: "operation byte, then fields in order, nothing after".
--- For the rows of Marked, for EachNumber, YearlyBalance, WrongSeverity, Headline and Raises, and for the twins in TwinRaises.
+-- For the rows of Marked, for EachNumber, YearlyBalance, WrongSeverity, Headline, Raises and Characters, and for the twins in TwinRaises.
 use Prim.Native.Nat.{ℕ}
 use Prim.Native.String.{String}
 use mathlib.Core.List.{[], _∷_, _++_}

@@ -1,5 +1,5 @@
 -- The definition opened, part by part: each name stands for one of its functions, and to unfold it is to unfold what that function calls. For
--- Key, Stations and TwinRaises, which compute.
+-- Key, Stations, Characters and TwinRaises, which compute.
 use Prim.Native.Nat.{ℕ}
 use Rattle.octets.specs.Bytes.{Bytes, same, begins, digits, valueFrom, zeros, pad}
 use Rattle.octets.specs.Pack.{pack}

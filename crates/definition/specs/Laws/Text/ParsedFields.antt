@@ -5,7 +5,7 @@ use mathlib.Core.List.{[], _∷_}
 use mathlib.Core.Bool.{Bool, true, false, cond, _&&_, _||_}
 use mathlib.Core.Option.{Option, none, some}
 use native.Mathlib.Omega.{arith}
-use lib.Dec.{leb, eqb}
+use lib.Dec.{T, leb, eqb}
 use lib.ListN.{length, take, drop, length-take}
 use borrow.Author.Tests.{leb-true}
 use Rattle.octets.specs.Bytes.{Bytes, Octets}
@@ -75,7 +75,7 @@ unfolding choice
 choice-reads lo hi = bind-reads _ _ (number-reads 1) (λ b p. if-reads (leb lo b && leb b hi) _ _
     (λ e. give-reads _ b (leb-true b hi (holds _ (both-right (leb lo b) (leb b hi) (true-holds _ e))))) (λ e. refuse-reads 25 tt))
 
-blob-reads : (n : ℕ) → Reads (BlobOf n) (blob n)
+pub blob-reads : (n : ℕ) → Reads (BlobOf n) (blob n)
 unfolding blob
 blob-reads n = bind-reads _ _ (number-reads 4) (λ k p. if-reads (leb k n) _ _ (λ e. fits k (leb-true k n e)) (λ e. refuse-reads 26 tt))
   where
@@ -90,7 +90,7 @@ text-reads : (n : ℕ) → Reads (TextOf n) (text n)
 unfolding text
 text-reads n = bind-reads _ _ (blob-reads n) (λ t p. if-reads (utf8 t) _ _ (λ e. give-reads (TextOf n) t (p, e)) (λ e. refuse-reads 27 tt))
 
-optional-reads : {A : Type 0} (P : A → Type 0) (r : Reader A) → Reads P r → Reads (Maybe P) (optional r)
+pub optional-reads : {A : Type 0} (P : A → Type 0) (r : Reader A) → Reads P r → Reads (Maybe P) (optional r)
 unfolding optional
 optional-reads P r l = bind-reads _ _ (choice-reads 0 1) (λ p h. if-reads (eqb p 0) _ _
     (λ e. give-reads (Maybe P) none tt) (λ e. bind-reads _ _ l (λ t q. give-reads (Maybe P) (some t) q)))
@@ -203,16 +203,20 @@ head-reads =
     bind-reads _ _ (number-reads 8) (λ t pt. bind-reads _ _ (text-reads shortLimit) (λ i pi. bind-reads _ _ (text-reads shortLimit) (λ y py.
     bind-reads _ _ (choice-reads 0 5) (λ v pv. give-reads ReadHead _ (record { time = pt; id = pi; type = py; severity = pv })))))
 
-raiseText-reads : Reads (TextOf textLimit) raiseText
+-- a text within both limits
+abbrev pub Short : Bytes → Type 0
+Short t = TextOf textLimit t × T (atMost codePointLimit (codePoints t))
+
+pub raiseText-reads : Reads Short raiseText
 unfolding raiseText
 raiseText-reads =
-    bind-reads _ _ (text-reads textLimit) (λ t p. if-reads (atMost codePointLimit (codePoints t)) _ _ (λ e. give-reads (TextOf textLimit) t p) (λ e. refuse-reads 33 tt))
+    bind-reads _ _ (text-reads textLimit) (λ t p. if-reads (atMost codePointLimit (codePoints t)) _ _ (λ e. give-reads Short t (p, true-holds _ e)) (λ e. refuse-reads 33 tt))
 
 body-reads : (h : RaiseHeadValue) (k : KeyValue) → ReadHead h → LegalKey k → Reads LegalRaise (raiseBody h k)
 unfolding raiseBody
 body-reads h k ph pk =
     bind-reads _ _ raiseText-reads (λ x px. bind-reads _ _ (optional-reads (BlobOf detailsLimit) _ (blob-reads detailsLimit)) (λ d pd.
-    give-reads LegalRaise _ (record { time = ph .time; id = ph .id; type = ph .type; severity = ph .severity; key = pk; text = px; details = pd })))
+    give-reads LegalRaise _ (record { time = ph .time; id = ph .id; type = ph .type; severity = ph .severity; key = pk; text = px .0; details = pd })))
 
 pub raise-reads : Reads LegalRaise raiseFields
 unfolding raiseFields

@@ -144,7 +144,7 @@ head-local =
     bind-local _ _ (number-local 8) (λ t. bind-local _ _ (text-local shortLimit) (λ i. bind-local _ _ (text-local shortLimit) (λ k.
     bind-local _ _ (choice-local 0 5) (λ v. give-local _))))
 
-beforeText-local : Local beforeText
+pub beforeText-local : Local beforeText
 unfolding beforeText
 beforeText-local =
     bind-local _ _ head-local (λ h. bind-local _ _ key-local (λ k. cond-local (named (k .places .region)) _ _ (give-local (h, k)) (refuse-local 29)))
