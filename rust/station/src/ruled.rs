@@ -140,6 +140,21 @@ mod tests {
     }
 
     #[test]
+    fn columns_are_measured_in_characters() {
+        let texts = ["plain", "déjà gelé", "84 ℃ → 停止 🚡", &"é".repeat(120), &"🚡".repeat(64)];
+        let cells = |lines: &[&str]| lines.iter().map(|line| vec![line.to_string()]).collect();
+        let columns = [
+            PageColumn { setting: Setting::Words, heading: vec!["text".into()], cells: cells(&texts) },
+            PageColumn { setting: Setting::Numbers, heading: vec!["times".into()], cells: cells(&["1"; 5]) },
+        ];
+        let page = super::ruled("T", &columns);
+        let bars: Vec<usize> = page.lines().skip(1).map(|line| line.chars().position(|c| "│┬┼┴".contains(c)).unwrap()).collect();
+        assert_eq!(bars, vec![bars[0]; 10], "{page}");
+        assert!(page.lines().any(|line| line.chars().count() == PAGE_WIDTH), "{page}");
+        assert_eq!((page.matches('é').count(), page.matches('🚡').count()), (2 + 120, 1 + 64), "{page}");
+    }
+
+    #[test]
     fn names_are_broken_behind_signs() {
         assert_eq!(wrapped("other:ropeway.sheave-wear", 15), ["other:ropeway.", "sheave-wear"]);
         assert_eq!(wrapped("a word too long", 6), ["a word", "too", "long"]);
