@@ -139,19 +139,25 @@ mod tests {
         assert!(page.lines().any(|line| line.ends_with("│ 7")), "{page}");
     }
 
+    /// A page of texts, each with a number beside it.
+    fn page(texts: &[&str]) -> String {
+        let cells = |lines: &[&str]| lines.iter().map(|line| vec![line.to_string()]).collect();
+        super::ruled(
+            "T",
+            &[
+                PageColumn { setting: Setting::Words, heading: vec!["text".into()], cells: cells(texts) },
+                PageColumn { setting: Setting::Numbers, heading: vec!["n".into()], cells: cells(&vec!["1"; texts.len()]) },
+            ],
+        )
+    }
+
     #[test]
     fn columns_are_measured_in_characters() {
-        let texts = ["plain", "déjà gelé", "84 ℃ → 停止 🚡", &"é".repeat(120), &"🚡".repeat(64)];
-        let cells = |lines: &[&str]| lines.iter().map(|line| vec![line.to_string()]).collect();
-        let columns = [
-            PageColumn { setting: Setting::Words, heading: vec!["text".into()], cells: cells(&texts) },
-            PageColumn { setting: Setting::Numbers, heading: vec!["times".into()], cells: cells(&["1"; 5]) },
-        ];
-        let page = super::ruled("T", &columns);
-        let bars: Vec<usize> = page.lines().skip(1).map(|line| line.chars().position(|c| "│┬┼┴".contains(c)).unwrap()).collect();
-        assert_eq!(bars, vec![bars[0]; 10], "{page}");
-        assert!(page.lines().any(|line| line.chars().count() == PAGE_WIDTH), "{page}");
-        assert_eq!((page.matches('é').count(), page.matches('🚡').count()), (2 + 120, 1 + 64), "{page}");
+        let rows = " text   │ n\n────────┼───\n gelé à │ 1\n ℃ → 🚡  │ 1\n 停止     │ 1\n";
+        assert_eq!(page(&["gelé à", "℃ → 🚡", "停止"]), format!("T\n────────┬───\n{rows}────────┴───\n"));
+        let broken = page(&[&"é".repeat(120), &"🚡".repeat(64)]);
+        let lines: Vec<usize> = broken.lines().map(|line| line.matches(['é', '🚡']).count()).collect();
+        assert_eq!(lines, [0, 0, 0, 0, 93, 27, 64, 0], "{broken}");
     }
 
     #[test]

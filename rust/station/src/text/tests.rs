@@ -76,6 +76,7 @@ fn faults_are_told_with_line_and_column() {
         ("2026-03-14 09:30 summary", "line 2, column 18: summary has no time"),
         ("2026-03-14 09:30 acknowledge id=a", "line 2, column 34: authorised= is missing"),
         ("2026-03-14 09:30 acknowledge id=a authorised=maybe", "line 2, column 46: authorised is yes or no"),
+        ("2026-03-14 09:30 acknowledge id=ů🚡 authorised=maybe", "line 2, column 47: authorised is yes or no"),
         ("2026-03-14 09:30 acknowledge id=a id=b authorised=no", "line 2, column 35: id is given twice"),
         ("2026-03-14 09:30 acknowledge id=a authorised=no colour=red", "line 2, column 49: acknowledge has no field colour"),
         (&format!("{raise} cause=lease object=tenant(a)"), "line 2, column 57: the cause is not a known name"),
