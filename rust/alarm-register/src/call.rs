@@ -17,8 +17,8 @@ macro_rules! setters {
     };
 }
 
-/// 1: raises an alarm, or updates the active one with the same key. [`Operation::check`](crate::Operation::check) tells before it is
-/// sent what a register would refuse in it.
+/// 1: raises an alarm, or updates the active one with the same key. [`check`](crate::Operation::check) tells before it is sent what
+/// a register would refuse in it.
 #[derive(Clone, Copy, Debug, PartialEq, Eq)]
 pub struct Raise<'a> {
     /// When.

@@ -7,9 +7,9 @@
 //! puts the call's bytes ([`CALL_ROOM`]) on it too.
 //!
 //! Start with [`Register`]. Operations are [`Raise`], [`Clear`], [`PlainAction`], [`PolicyAction`], [`Expire`],
-//! [`ListActive`], [`ListHistory`], [`CountActive`], [`Summarise`] and [`TakeAudit`]; each says what it is answered by, and, asked
-//! by [`Operation::check`], what a register would refuse in it. [`Balance`] adds up answers, and says whether what was raised is
-//! active, cleared or expired.
+//! [`ListActive`], [`ListHistory`], [`CountActive`], [`Summarise`] and [`TakeAudit`]; each says what it is answered by, and
+//! [`Operation::check`] tells before it is sent what a register would refuse in it. [`Balance`] adds up answers, and says whether
+//! what was raised is active, cleared or expired.
 //!
 //! ```
 //! use alarm_register::{Limits, ListActive, Object, Raise, Register, Severity, Time};

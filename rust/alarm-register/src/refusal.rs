@@ -4,9 +4,9 @@ use core::fmt;
 /// Why opening or a call was refused. The register and the answer slice are then as they were.
 ///
 /// Each has its number and a sentence. Checks go in the order of 20 to 31, and the first fault is told; a call is read field by
-/// field, and of 23 to 29 and 33 the one that is met first is told: 33 at a raise's text, directly after 26 and 27 for it. Opening
-/// gives 20 and 21, and a call 22 to 31 or 33: that the library returns no other number is proved (docs/NUMBERS.md), so a host that
-/// handles [`Refusal::ALL`] handles all.
+/// field, and of 23 to 29 and 33 the one that is met first is told: 33 at a raise's text, directly after 26 and 27 for it.
+/// Opening gives 20 and 21, and a call 22 to 31 or 33: that the library returns no other number is proved (docs/NUMBERS.md), so a
+/// host that handles [`Refusal::ALL`] handles all.
 ///
 /// ```
 /// use alarm_register::Refusal;

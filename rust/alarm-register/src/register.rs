@@ -143,7 +143,7 @@ impl fmt::Debug for Register<'_> {
     }
 }
 
-/// Whether a register would take a call, as far as the call itself decides. [`Operation::check`] asks it of a call that is built up.
+/// Whether a register would take a call, as far as the call itself decides; [`Operation::check`] asks it of an operation.
 ///
 /// # Errors
 /// One of 23 to 29, or 33.
