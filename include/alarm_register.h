@@ -38,9 +38,9 @@ uint32_t alarm_open(uint8_t *reg, size_t reg_len, uint32_t active, uint32_t hist
 /*
  * Performs one call on a register, and writes the answer to answer[0..*length]. The bytes behind it stay as they were.
  *
- * Returns 0, or one of ALARM_REFUSED_UNSOUND to ALARM_REFUSED_ID_ACTIVE (22 to 31), and no other number; on a refusal
- * *length is 0, and reg and answer are as they were. An answer such as ALARM_CODE_UNAUTHORIZED is no refusal: the result
- * is 0, and the answer's first byte tells.
+ * Returns 0, or one of ALARM_REFUSED_UNSOUND to ALARM_REFUSED_CODE_POINTS (22 to 31, and 33), and no other number; on a
+ * refusal *length is 0, and reg and answer are as they were. An answer such as ALARM_CODE_UNAUTHORIZED is no refusal: the
+ * result is 0, and the answer's first byte tells.
  *
  * That alarm_open and alarm_step return these numbers alone is proved (theorem `numbers`, docs/NUMBERS.md): a host that
  * handles the refusals listed below handles all there are.
@@ -64,8 +64,9 @@ uint32_t alarm_step(uint8_t *reg, size_t reg_len, const uint8_t *call, size_t ca
     ((size_t)ALARM_HEAD_WIDTH + (size_t)ALARM_RECORD_WIDTH * (size_t)(records))
 
 /*
- * Refusals: what alarm_open (20, 21) and alarm_step (22 to 31) return besides 0. Checks go in this order, and the first
- * fault wins; a call is read field by field, and of 23 to 29 the one that is met first is returned.
+ * Refusals: what alarm_open (20, 21) and alarm_step (22 to 31, and 33) return besides 0. Checks go in the order of 20 to
+ * 31, and the first fault wins; a call is read field by field, and of 23 to 29 and 33 the one that is met first is
+ * returned: 33 at a raise's text, directly after 26 and 27 for it, and so before 24 to 26 for the details behind it.
  */
 #define ALARM_REFUSED_LIMITS                   20u  /* opening: a limit is 0 or above 65,535 */
 #define ALARM_REFUSED_REGISTER_LENGTH          21u  /* opening: reg_len is not that of the limits */
@@ -79,6 +80,7 @@ uint32_t alarm_step(uint8_t *reg, size_t reg_len, const uint8_t *call, size_t ca
 #define ALARM_REFUSED_REGION                   29u  /* a raise with a region that is present and empty */
 #define ALARM_REFUSED_ANSWER_LENGTH            30u  /* answer_len is too short for the answer */
 #define ALARM_REFUSED_ID_ACTIVE                31u  /* a raise would store an id that is active */
+#define ALARM_REFUSED_CODE_POINTS              33u  /* a raise's text has more than 120 code points */
 
 /* Operations: a call's first byte. The fields that follow are in docs/CALLS.md. */
 #define ALARM_OP_RAISE                         1u
@@ -177,6 +179,12 @@ uint32_t alarm_step(uint8_t *reg, size_t reg_len, const uint8_t *call, size_t ca
 #define ALARM_LONGEST_TEXT                     256u
 #define ALARM_LONGEST_REASON                   256u
 #define ALARM_LONGEST_DETAILS                  512u  /* any bytes; all others are UTF-8 */
+
+/*
+ * The most code points of a raise's text, beside its 256 bytes: in UTF-8, how many of its bytes are not 0x80 to 0xbf. The
+ * text of a record may have more, if it was stored before they were counted.
+ */
+#define ALARM_TEXT_CODE_POINTS                 120u
 
 /*
  * Offsets in a register's first record, the header. Limits, heads and lengths are u32, the counters u64.

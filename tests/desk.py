@@ -10,6 +10,7 @@ import subprocess
 import sys
 import tempfile
 
+import characters
 import times
 import reaches
 import recounts
@@ -166,7 +167,7 @@ def narrow(_root):
     """No page is wider than it may be, however long the fields are, and the longest of them lose nothing."""
     names = [f"{letter}" * 64 for letter in "BFGHJKNOP"]
     raised = '2026-12-24 23:59:58.123456789 raise id={0} type={1} severity=indeterminate cause=other:{2}.x object=queue({3},{4},65535)'
-    raised += ' tenant={5} slice={6} region={7} text="' + "Q" * 256 + '"'
+    raised += ' tenant={5} slice={6} region={7} text="' + "Q" * 120 + '"'
     acted = "2026-12-24 23:59:59.123456789 acknowledge-with-policy id={0} principal={1} tenant={2} scope=tenant({3}) correlation={4}"
     acted += " critical-allowed=no authorised=yes reason=" + "r" * 256
     text = "limits active=1 history=2 audit=1\n" + raised.format(*names) + "\n" + acted.format(*names) + "\n"
@@ -174,7 +175,7 @@ def narrow(_root):
     for name, printed in (("wide", works("replay", calls)), ("day", works("replay", DAY)), ("recount", works("recount", calls))):
         yield from too_wide(name, printed, PAGE_WIDTH)
     active = works("replay", calls, "--only", "active").decode()
-    if active.count("Q") != 256 or active.count("O") != 64 or "24 Dec 2026" not in active:
+    if active.count("Q") != 120 or active.count("O") != 64 or "24 Dec 2026" not in active:
         yield f"a wide row lost something: {active}"
 
 
@@ -278,6 +279,7 @@ USES = {
     "texts do not steer": steered,
     **recounts.CHECKS,
     **times.CHECKS,
+    **characters.CHECKS,
     **reaches.CHECKS,
     "twins are the same": twins,
     "registers are checked": checked,

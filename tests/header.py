@@ -12,6 +12,7 @@ import numbering
 from checklist import Skip, run
 from numbering import HEADER
 
+LIMITS, CODE_POINTS = "rust/alarm-register/src/layout.rs", "ALARM_TEXT_CODE_POINTS"
 PROGRAM, PRINTED = "examples/cabinet.c", "examples/cabinet.out"
 LIBRARY = "target/staticlib/libstation.a"
 WARNINGS = ["-Wall", "-Wextra", "-Werror", "-pedantic"]
@@ -94,6 +95,14 @@ def longest(root):
             yield f"ALARM_LONGEST_{name} is {given.get(name)}, the room {rooms.get(LONGEST.get(name))}"
 
 
+def code_points(root):
+    """A raise's text has one limit of code points: in the header, in the crate, and in the words of refusals there and on the page."""
+    said = r"TEXT_CODE_POINTS(?:: usize =)? +(\d+)|text has more than (\d+) code points"
+    places = {path: re.findall(said, numbering.read(root, path)) for path in (HEADER, numbering.PAGE, numbering.CRATE, LIMITS)}
+    found = {path: {int(one or other) for one, other in numbers} for path, numbers in places.items()}
+    yield from (f"{path} has {sorted(numbers)}" for path, numbers in found.items() if numbers != {constants(root).get(CODE_POINTS)})
+
+
 def numbers(root):
     """The page's table, the definition's lists, the header and the Rust crate have the same numbers in the same order, and no removed one."""
     rows, lists = numbering.given(root), numbering.defined(root)
@@ -149,6 +158,7 @@ def raises(root):
 CHECKS = {
     "offsets are the layout's": layout,
     "limits of strings are the layout's": longest,
+    "one limit of code points": code_points,
     "numbers are those of docs/NUMBERS.md": numbers,
     "raises are read": raises,
     "a cabinet's program in C": cabinet(C),

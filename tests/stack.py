@@ -25,6 +25,7 @@ from reading import LONGEST, NAMES, OPERATIONS
 
 LIMIT = int(re.search(r"needs \d+ KiB \(([\d,]+) bytes\) of stack", (HERE / HEADER).read_text(encoding="utf-8")).group(1).replace(",", ""))
 PROGRAM = HERE / "tests/stack.c"
+CODE_POINTS = 120  # the most of a raise's text
 OPENING, OTHER = 0, 13  # beside the operations 1 to 12
 PAIRS = "pairs of severity and cause"
 TITLES = {OPENING: "opening", **{op: f"{op} {name}" for op, (name, _) in OPERATIONS.items()}, OTHER: "calls without an operation"}
@@ -36,6 +37,7 @@ ANSWERS, REFUSALS = {(0, code) for code in range(1, 12)}, {(number, 0) for numbe
 def largest(text, cause):
     """Values of all fields, with each string as long as it may be; `text(n)` gives one of n bytes."""
     strings = {name: text(n) for name, n in LONGEST.items() if name in PLAIN}
+    strings["text"] = strings["text"].decode()[:CODE_POINTS].encode()
     return strings | {"cause": cause, "object": (8, text(64), text(64), 65535), "scope": (0, text(64))}
 
 
@@ -55,6 +57,7 @@ def day(values, events):
         return call(op, **values | {"id": ids[i], "type": ids[i], "severity": i + 2} | others)
 
     calls = [send(1), send(1), send(1, severity=5), send(1, 1, id=ids[0]), send(1, 1), send(1, 2), send(1, 3), send(2, 3)]
+    calls += [send(1, text=b"x" * (CODE_POINTS + 1))]
     calls += [send(op, i, authorised=flag) for op in (3, 4) for i in (0, 3) for flag in (0, 1)]
     policies = [(op, i, flags) for op in (5, 6) for i in (0, 1, 3) for flags in ((1, 1), (1, 0), (0, 1), (0, 0))]
     calls += [send(op, i, critical_allowed=allowed, authorised=authorised) for op, i, (allowed, authorised) in policies]

@@ -17,7 +17,8 @@ macro_rules! setters {
     };
 }
 
-/// 1: raises an alarm, or updates the active one with the same key.
+/// 1: raises an alarm, or updates the active one with the same key. [`check`](crate::Operation::check) tells before it is sent what
+/// a register would refuse in it.
 #[derive(Clone, Copy, Debug, PartialEq, Eq)]
 pub struct Raise<'a> {
     /// When.
@@ -38,7 +39,7 @@ pub struct Raise<'a> {
     pub slice: Option<&'a str>,
     /// The region, if any; not empty.
     pub region: Option<&'a str>,
-    /// A text for people.
+    /// A text for people, of at most 120 code points ([`TEXT_CODE_POINTS`](crate::TEXT_CODE_POINTS)) and 256 bytes.
     pub text: &'a str,
     /// Details: any bytes.
     pub details: Option<&'a [u8]>,

@@ -7,6 +7,8 @@ pub const RECORD_WIDTH: usize = 1536;
 pub const HEAD_WIDTH: usize = 16;
 /// Room for the answer of every operation that gives no list: a head and one record.
 pub const ANSWER_ROOM: usize = HEAD_WIDTH + RECORD_WIDTH;
+/// The most code points of a raise's text, as [`str::chars`] counts them. A text that is stored already may have more.
+pub const TEXT_CODE_POINTS: usize = 120;
 
 /// Longest strings, in bytes.
 pub mod longest {
@@ -32,7 +34,7 @@ pub mod longest {
     pub const REGION: usize = 128;
     /// The message of a denial.
     pub const DENIAL: usize = 128;
-    /// The text of an alarm.
+    /// The text of an alarm; that of a raise has at most [`TEXT_CODE_POINTS`](super::TEXT_CODE_POINTS) as well.
     pub const TEXT: usize = 256;
     /// The reason of an action.
     pub const REASON: usize = 256;

@@ -7,8 +7,9 @@
 //! puts the call's bytes ([`CALL_ROOM`]) on it too.
 //!
 //! Start with [`Register`]. Operations are [`Raise`], [`Clear`], [`PlainAction`], [`PolicyAction`], [`Expire`],
-//! [`ListActive`], [`ListHistory`], [`CountActive`], [`Summarise`] and [`TakeAudit`]; each says what it is answered by.
-//! [`Balance`] adds up answers, and says whether what was raised is active, cleared or expired.
+//! [`ListActive`], [`ListHistory`], [`CountActive`], [`Summarise`] and [`TakeAudit`]; each says what it is answered by, and
+//! [`Operation::check`] tells before it is sent what a register would refuse in it. [`Balance`] adds up answers, and says whether
+//! what was raised is active, cleared or expired.
 //!
 //! ```
 //! use alarm_register::{Limits, ListActive, Object, Raise, Register, Severity, Time};
@@ -50,7 +51,7 @@ pub use answer::{code_name, ActionAnswer, ClearAnswer, Head, RaiseAnswer};
 pub use balance::Balance;
 pub use bytes::{CallBytes, CALL_ROOM};
 pub use call::{Clear, PlainAction, PolicyAction, Raise};
-pub use layout::{ANSWER_ROOM, HEAD_WIDTH, RECORD_WIDTH};
+pub use layout::{ANSWER_ROOM, HEAD_WIDTH, RECORD_WIDTH, TEXT_CODE_POINTS};
 pub use object::{Object, Scope};
 pub use operation::{Call, CountActive, Expire, ListActive, ListHistory, Operation, Summarise, TakeAudit};
 pub use record::{Alarm, AuditEvent, Key};

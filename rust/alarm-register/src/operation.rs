@@ -3,6 +3,8 @@ use crate::answer::{ActionAnswer, ClearAnswer, Head, RaiseAnswer};
 use crate::bytes::{CallBytes, Fields};
 use crate::call::{Clear, PlainAction, PolicyAction, Raise};
 use crate::layout::longest;
+use crate::refusal::Refusal;
+use crate::register::check_call;
 use crate::report::{Alarms, AuditEvents, Counts, Summary};
 use crate::time::Time;
 use crate::values::{Action, Severity};
@@ -56,6 +58,27 @@ pub trait Operation: sealed::Sealed {
 
     /// Its call.
     fn call(&self) -> CallBytes;
+
+    /// Whether a register would take it, as far as its own fields decide, so that a person can be told before it is sent.
+    ///
+    /// # Errors
+    /// 26, 28, 29 or 33: the library's own number, which is that of the first field with a fault.
+    ///
+    /// ```
+    /// use alarm_register::{Object, Operation, Raise, Refusal, Severity, Time};
+    ///
+    /// let mast = Object::Interface { nf: "tower-11", name: "anemometer" };
+    /// let frozen = Raise::new(Time(0), "A-9", "wind.sensor", Severity::Minor, "other:ropeway.wind-sensor", mast);
+    /// // the limit of 120 is one of characters, and not of bytes: é has two
+    /// assert_eq!(frozen.text(&"é".repeat(120)).check(), Ok(()));
+    /// assert_eq!(frozen.text(&"é".repeat(121)).check(), Err(Refusal::CodePoints));
+    /// // there are at most 256 bytes as well: 64 characters of four
+    /// assert_eq!(frozen.text(&"🚡".repeat(64)).check(), Ok(()));
+    /// assert_eq!(frozen.text(&"🚡".repeat(65)).check(), Err(Refusal::TooLong));
+    /// ```
+    fn check(&self) -> Result<(), Refusal> {
+        check_call(self.call().as_bytes())
+    }
 
     /// Its answer from the bytes that a register gave; `None` where they are not such an answer.
     fn read_answer(answer: &[u8]) -> Option<Self::Answer<'_>>;
@@ -139,7 +162,7 @@ pub enum Call<'a> {
 impl<'a> Call<'a> {
     /// The operation that a call's bytes ask for; `None` where a field is missing or too long, or bytes are left over.
     ///
-    /// Whether a register would take the call is [`check_call`](crate::check_call)'s to say: this does not judge causes.
+    /// Whether a register would take the call is [`check_call`]'s to say: this judges no cause and counts no code points.
     pub fn read(call: &'a [u8]) -> Option<Call<'a>> {
         let mut fields = Fields(call);
         let read = match fields.byte()? {

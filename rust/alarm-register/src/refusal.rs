@@ -3,9 +3,10 @@ use core::fmt;
 
 /// Why opening or a call was refused. The register and the answer slice are then as they were.
 ///
-/// Each has its number and a sentence. Checks go in this order, and the first fault is told; a call is read field by field,
-/// and of 23 to 29 the one that is met first is told. Opening gives 20 and 21 and a call 22 to 31: that the library returns no
-/// other number is proved (docs/NUMBERS.md), so a host that handles [`Refusal::ALL`] handles all.
+/// Each has its number and a sentence. Checks go in the order of 20 to 31, and the first fault is told; a call is read field by
+/// field, and of 23 to 29 and 33 the one that is met first is told: 33 at a raise's text, directly after 26 and 27 for it.
+/// Opening gives 20 and 21, and a call 22 to 31 or 33: that the library returns no other number is proved (docs/NUMBERS.md), so a
+/// host that handles [`Refusal::ALL`] handles all.
 ///
 /// ```
 /// use alarm_register::Refusal;
@@ -39,13 +40,15 @@ pub enum Refusal {
     AnswerLength,
     /// 31: the raise would store an id that is active.
     IdActive,
+    /// 33: the raise's text has more than 120 code points.
+    CodePoints,
     /// A number that this crate does not know: the linked library is newer.
     Unlisted(u32),
 }
 
 impl Refusal {
     /// All refusals, by rising number.
-    pub const ALL: [Refusal; 12] = [
+    pub const ALL: [Refusal; 13] = [
         Refusal::Limits,
         Refusal::RegisterLength,
         Refusal::Unsound,
@@ -58,6 +61,7 @@ impl Refusal {
         Refusal::Region,
         Refusal::AnswerLength,
         Refusal::IdActive,
+        Refusal::CodePoints,
     ];
 
     /// The refusal of a number.
@@ -81,6 +85,7 @@ impl Refusal {
             Refusal::Region => 29,
             Refusal::AnswerLength => 30,
             Refusal::IdActive => 31,
+            Refusal::CodePoints => 33,
             Refusal::Unlisted(number) => number,
         }
     }
@@ -102,6 +107,7 @@ impl Refusal {
             Refusal::Region => "the raise has a region that is present and empty",
             Refusal::AnswerLength => "the slice for the answer is too short",
             Refusal::IdActive => "the raise would store an id that is active",
+            Refusal::CodePoints => "the raise's text has more than 120 code points",
             Refusal::Unlisted(_) => "the library gave a number that this program does not know",
         }
     }

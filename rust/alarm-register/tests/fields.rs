@@ -39,7 +39,9 @@ fn stored_as_sent(raise: &Raise<'_>) {
 
 #[test]
 fn alarms_are_stored_as_sent() {
-    let long = "ö".repeat(128);
+    let long = "ö".repeat(64);
+    // 120 code points in 256 bytes
+    let text = "ö".repeat(112) + &"🚡".repeat(8);
     let details: Vec<u8> = (0..=255).cycle().take(longest::DETAILS).collect();
     let cause = format!("other:a.{}", "b".repeat(longest::CAUSE - 8));
     for object in objects("x", "").into_iter().chain(objects(&long[..64], &long[..64])) {
@@ -53,7 +55,7 @@ fn alarms_are_stored_as_sent() {
             cause: &cause,
             ..short
         };
-        stored_as_sent(&full.tenant(&long[..64]).slice("").region(&long[..128]).text(&long).details(&details));
+        stored_as_sent(&full.tenant(&long[..64]).slice("").region(&long).text(&text).details(&details));
     }
 }
 

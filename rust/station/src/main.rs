@@ -73,8 +73,10 @@ Makes a list of calls from its text: one call a line, as in
 
 docs/CALLS.md has every operation and every way to write a date; examples/day.txt
 is a whole day. A call that a register would refuse for what it says (numbers 23
-to 29) is a fault here, told with its line and column; `raw` takes bytes of any
-kind. TEXT may be - for standard input.
+to 29, and 33) is a fault here, told with its line and column, which are counted
+in characters. So are the 120 that an alarm's text may have: of a longer one the
+first character too many is named. `raw` takes bytes of any kind. TEXT may be -
+for standard input.
 
   -o LIST   writes the list to a file; without it, to standard output
 

@@ -14,7 +14,8 @@ Runs the calls of LIST (a .calls file, or - for standard input) from a fresh
 register, and prints the register as a page of the station's book: active alarms,
 history, audit trail, counts by severity and cause, what the calls were answered,
 and the summary. The page leaves out types, scopes, details and keys; --json and
---csv have them.
+--csv have them. Its columns are measured in characters: a terminal that gives one
+of them two cells, as many do for Chinese and for pictures, moves what is behind.
 
   --only TABLE   active, history, audit, counts, answers or summary alone
   --zone ZONE    times of clocks so far ahead of UTC, as +01:00; without it, UTC

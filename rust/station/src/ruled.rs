@@ -139,6 +139,27 @@ mod tests {
         assert!(page.lines().any(|line| line.ends_with("│ 7")), "{page}");
     }
 
+    /// A page of texts, each with a number beside it.
+    fn page(texts: &[&str]) -> String {
+        let cells = |lines: &[&str]| lines.iter().map(|line| vec![line.to_string()]).collect();
+        super::ruled(
+            "T",
+            &[
+                PageColumn { setting: Setting::Words, heading: vec!["text".into()], cells: cells(texts) },
+                PageColumn { setting: Setting::Numbers, heading: vec!["n".into()], cells: cells(&vec!["1"; texts.len()]) },
+            ],
+        )
+    }
+
+    #[test]
+    fn columns_are_measured_in_characters() {
+        let rows = " text   │ n\n────────┼───\n gelé à │ 1\n ℃ → 🚡  │ 1\n 停止     │ 1\n";
+        assert_eq!(page(&["gelé à", "℃ → 🚡", "停止"]), format!("T\n────────┬───\n{rows}────────┴───\n"));
+        let broken = page(&[&"é".repeat(120), &"🚡".repeat(64)]);
+        let lines: Vec<usize> = broken.lines().map(|line| line.matches(['é', '🚡']).count()).collect();
+        assert_eq!(lines, [0, 0, 0, 0, 93, 27, 64, 0], "{broken}");
+    }
+
     #[test]
     fn names_are_broken_behind_signs() {
         assert_eq!(wrapped("other:ropeway.sheave-wear", 15), ["other:ropeway.", "sheave-wear"]);

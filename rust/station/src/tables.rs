@@ -198,7 +198,8 @@ mod tests {
 
     #[test]
     fn the_largest_number_of_raises_fits_the_page_beside_the_longest_fields() {
-        let long = "x".repeat(256);
+        // the text is longer than a raise may bring it now: it was stored before
+        let (long, text) = ("x".repeat(128), "Q".repeat(256));
         let alarm = Alarm {
             key: Key([255; 16]),
             severity: Severity::Indeterminate,
@@ -212,8 +213,8 @@ mod tests {
             object: Object::DataPlaneQueue { nf: &long[..64], interface: &long[..64], queue: 65_535 },
             tenant: Some(&long[..64]),
             slice: Some(&long[..64]),
-            region: Some(&long[..128]),
-            text: &long,
+            region: Some(&long),
+            text: &text,
             details: None,
             raises: u32::MAX,
         };
@@ -222,6 +223,7 @@ mod tests {
         let page = table.ruled();
         assert!(page.lines().all(|line| line.chars().count() <= PAGE_WIDTH), "{page}");
         assert_eq!(page.lines().filter(|line| line.ends_with("│ 4294967295")).count(), 1, "{page}");
+        assert_eq!(page.matches('Q').count(), 256, "{page}");
         assert!(table.csv().starts_with("raised_at,") && table.csv().ends_with(",4294967295\n"), "{}", table.csv());
     }
 }

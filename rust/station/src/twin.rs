@@ -15,12 +15,13 @@ station twin LIST [--json | --csv]
 
 Makes a twin of LIST (a .calls file, or - for standard input): the same calls, but
 every raise has another text, and details where it had none and none where it had
-some. Runs both from fresh registers and compares, after each call, number, answer
-and register byte for byte outside text and details; at the end the figures of
-`station recount`, as they are printed.
+some. A raise that a register refuses for what it says stays as it is. Runs both
+from fresh registers and compares, after each call, number, answer and register
+byte for byte outside text and details; at the end the figures of `station
+recount`, as they are printed.
 
-That texts and details change nothing else is proved for every list; this shows it
-on yours.
+That texts of at most 120 characters and 256 bytes, and details, change nothing
+else is proved for every list; this shows it on yours.
 
   --json, --csv   the result for scripts
 
@@ -52,7 +53,8 @@ pub fn command(options: &Options) -> Result<u8, Failure> {
 /// A raise with another text and other details; any other call as it is.
 fn other_texts(place: usize, call: &[u8]) -> Vec<u8> {
     let (Ok(()), Some(Call::Raise(raise))) = (check_call(call), Call::read(call)) else { return call.to_vec() };
-    let mut text = format!("another text, of call {}", place + 1);
+    // characters of one to four bytes
+    let mut text = format!("another text → call n° {} 🚡", place + 1);
     if text == raise.text {
         text += ".";
     }
@@ -138,17 +140,38 @@ fn table(compared: &Compared, replaced: usize) -> Table {
 
 #[cfg(test)]
 mod tests {
-    use super::{masked_answer, masked_register, Step};
+    use super::{masked_answer, masked_register, other_texts, Step};
     use alarm_register::layout::alarm::RAISES;
-    use alarm_register::{Limits, Object, Operation, Raise, Register, Severity, Time, ANSWER_ROOM, HEAD_WIDTH, RECORD_WIDTH};
+    use alarm_register::{
+        check_call, Limits, Object, Operation, Raise, Register, Severity, Time, ANSWER_ROOM, HEAD_WIDTH, RECORD_WIDTH,
+    };
+
+    fn raise(text: &str) -> Vec<u8> {
+        let raise = Raise::new(Time(0), "a", "t", Severity::Minor, "lease-lost", Object::Tenant { tenant: "a" });
+        raise.text(text).call().as_bytes().to_vec()
+    }
+
+    #[test]
+    fn another_text_keeps_both_limits_where_a_raise_does() {
+        let both = "é".repeat(112) + &"🚡".repeat(8);
+        let same = format!("another text → call n° {} 🚡", usize::MAX);
+        for text in ["", &both, &"x".repeat(120), &same] {
+            let other = other_texts(usize::MAX - 1, &raise(text));
+            assert_ne!(other, raise(text));
+            assert_eq!(check_call(&other), Ok(()), "{text}");
+        }
+        for text in ["x".repeat(121), "é".repeat(128), "x".repeat(257)] {
+            assert_eq!(other_texts(0, &raise(&text)), raise(&text));
+        }
+    }
 
     #[test]
     fn twins_may_differ_up_to_the_raises_of_an_alarm_and_not_in_them() {
         let limits = Limits { active: 1, history: 1, audit: 1 };
         let (mut bytes, mut room) = (vec![0; limits.register_length()], [0; ANSWER_ROOM]);
-        let raise = Raise::new(Time(0), "a", "t", Severity::Minor, "lease-lost", Object::Tenant { tenant: "a" }).call();
-        let got = Register::open(&mut bytes, limits).unwrap().step(raise.as_bytes(), &mut room).unwrap().to_vec();
-        let answered = |got: &[u8]| masked_answer(&Step { call: raise.as_bytes(), got: Ok(got), register: &[] });
+        let raise = raise("");
+        let got = Register::open(&mut bytes, limits).unwrap().step(&raise, &mut room).unwrap().to_vec();
+        let answered = |got: &[u8]| masked_answer(&Step { call: &raise, got: Ok(got), register: &[] });
         for (at, same) in [(RAISES - 1, true), (RAISES, false), (RAISES + 3, false)] {
             let (mut other_bytes, mut other_got) = (bytes.clone(), got.clone());
             other_bytes[RECORD_WIDTH + at] ^= 255;

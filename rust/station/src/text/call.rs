@@ -6,7 +6,7 @@ use super::Parsed;
 use alarm_register::layout::longest;
 use alarm_register::{
     Action, Call, Clear, CountActive, Expire, ListActive, ListHistory, Object, PlainAction, PolicyAction, Raise, Scope, Severity,
-    Summarise, TakeAudit, Time,
+    Summarise, TakeAudit, Time, TEXT_CODE_POINTS,
 };
 
 const OPERATIONS: &str = "an operation is raise, clear, acknowledge, suppress, acknowledge-with-policy, suppress-with-policy, \
@@ -98,7 +98,8 @@ fn raise(time: Time, fields: &mut Fields) -> Result<Parsed, Fault> {
     let (id, alarm_type) = (fields.string("id", longest::ID)?, fields.string("type", longest::TYPE)?);
     let severity = severity(fields.need("severity")?)?;
     let key = KeyFields::read(fields)?;
-    let text = fields.option("text", longest::TEXT)?.unwrap_or_default();
+    let text =
+        fields.maybe("text").map(|value| value.text("text", longest::TEXT, TEXT_CODE_POINTS)).transpose()?.unwrap_or_default();
     let details = fields.maybe("details").map(|value| value.plain("details", longest::DETAILS)).transpose()?;
     let call = Raise {
         tenant: key.tenant.as_deref(),

@@ -35,24 +35,24 @@ impl fmt::Display for Fault {
 /// A line, and how far it was read.
 #[derive(Clone, Debug)]
 pub struct Cursor<'a> {
-    line: &'a str,
-    at: usize,
+    rest: &'a str,
+    column: usize,
 }
 
 impl<'a> Cursor<'a> {
     /// The start of a line.
     pub fn new(line: &'a str) -> Cursor<'a> {
-        Cursor { line, at: 0 }
+        Cursor { rest: line, column: 1 }
     }
 
     /// What was not read yet.
     pub fn rest(&self) -> &'a str {
-        &self.line[self.at..]
+        self.rest
     }
 
     /// The column of the next character.
     pub fn column(&self) -> usize {
-        self.line[..self.at].chars().count() + 1
+        self.column
     }
 
     /// A fault at the next character.
@@ -67,8 +67,9 @@ impl<'a> Cursor<'a> {
 
     /// Takes the next character.
     pub fn next(&mut self) -> Option<char> {
-        let next = self.peek()?;
-        self.at += next.len_utf8();
+        let mut left = self.rest.chars();
+        let next = left.next()?;
+        (self.rest, self.column) = (left.as_str(), self.column + 1);
         Some(next)
     }
 
@@ -76,17 +77,16 @@ impl<'a> Cursor<'a> {
     pub fn skip(&mut self, wanted: char) -> bool {
         let there = self.peek() == Some(wanted);
         if there {
-            self.at += wanted.len_utf8();
+            self.next();
         }
         there
     }
 
     /// Takes characters as long as they pass.
     pub fn take_while(&mut self, passes: impl Fn(char) -> bool) -> &'a str {
-        let rest = self.rest();
-        let length = rest.find(|c| !passes(c)).unwrap_or(rest.len());
-        self.at += length;
-        &rest[..length]
+        let (taken, left) = self.rest.split_at(self.rest.find(|c| !passes(c)).unwrap_or(self.rest.len()));
+        (self.rest, self.column) = (left, self.column + taken.chars().count());
+        taken
     }
 
     /// Passes over blanks.

@@ -1,5 +1,6 @@
 //! The fields of a line: `name=value`, where a value is a word, a quoted string, or a form such as `interface(drive,fan)`.
 use super::cursor::{Cursor, Fault};
+use super::print::visible;
 
 /// A value and the column that it starts in.
 #[derive(Clone, Debug)]
@@ -7,6 +8,8 @@ pub struct Value {
     pub column: usize,
     /// The word or the string, or the form's name.
     pub bytes: Vec<u8>,
+    /// The column in which each of these bytes is written.
+    columns: Vec<usize>,
     /// What stands between the form's brackets.
     pub parts: Option<Vec<Value>>,
 }
@@ -17,6 +20,16 @@ impl Value {
         let column = self.column;
         let bytes = self.plain(name, longest)?;
         String::from_utf8(bytes).map_err(|_| Fault::new(column, &format!("{name} is not UTF-8; only details hold any bytes")))
+    }
+
+    /// The string, with no more characters than these. They are counted before its bytes: characters are what people see.
+    pub fn text(self, name: &str, longest: usize, most: usize) -> Result<String, Fault> {
+        let text = std::str::from_utf8(&self.bytes).unwrap_or_default();
+        let Some((at, first)) = text.char_indices().nth(most) else { return self.string(name, longest) };
+        let named = format!("`{}`, U+{:04X}", visible(first), u32::from(first));
+        let count = text.chars().count();
+        let message = format!("{name} has {count} characters; at most {most} are allowed, and the first too many is {named}");
+        Err(Fault::new(self.columns[at], &message))
     }
 
     /// The bytes of a word or a quoted string, no longer than their limit.
@@ -64,14 +77,15 @@ pub fn read(line: &mut Cursor<'_>) -> Result<Fields, Fault> {
 fn value(line: &mut Cursor<'_>) -> Result<Value, Fault> {
     let column = line.column();
     if line.peek() == Some('"') {
-        return Ok(Value { column, bytes: quoted(line)?, parts: None });
+        return quoted(line);
     }
     let word = line.take_while(|c| !matches!(c, ' ' | '\t' | '"' | '(' | ')' | ','));
     if word.is_empty() {
         return Err(line.fault("a value was expected; an empty one is written \"\""));
     }
     let parts = if line.skip('(') { Some(parts(line)?) } else { None };
-    Ok(Value { column, bytes: word.as_bytes().to_vec(), parts })
+    let columns = word.chars().zip(column..).flat_map(|(c, column)| vec![column; c.len_utf8()]).collect();
+    Ok(Value { column, bytes: word.as_bytes().to_vec(), columns, parts })
 }
 
 fn parts(line: &mut Cursor<'_>) -> Result<Vec<Value>, Fault> {
@@ -89,19 +103,21 @@ fn parts(line: &mut Cursor<'_>) -> Result<Vec<Value>, Fault> {
     }
 }
 
-fn quoted(line: &mut Cursor<'_>) -> Result<Vec<u8>, Fault> {
+fn quoted(line: &mut Cursor<'_>) -> Result<Value, Fault> {
     let open = line.fault("this quote is not closed on its line");
-    let mut bytes = Vec::new();
+    let column = line.column();
+    let (mut bytes, mut columns) = (Vec::new(), Vec::new());
     line.skip('"');
     loop {
         let place = line.clone();
         match line.next().ok_or_else(|| open.clone())? {
-            '"' => return Ok(bytes),
+            '"' => return Ok(Value { column, bytes, columns, parts: None }),
             '\\' => bytes.extend(escape(line).ok_or_else(|| {
                 place.fault("behind a backslash stand \", \\, n, r, t, u{20ac} for a character or xff for a byte")
             })?),
             plain => bytes.extend(plain.to_string().bytes()),
         }
+        columns.resize(bytes.len(), place.column());
     }
 }
 

@@ -124,7 +124,7 @@ fn quoted(bytes: &[u8]) -> String {
 }
 
 /// A character, or what is written for one that cannot be seen or that moves what stands beside it.
-fn visible(c: char) -> String {
+pub fn visible(c: char) -> String {
     match c {
         '\n' => "\\n".to_string(),
         '\r' => "\\r".to_string(),

@@ -2,8 +2,8 @@
 use super::{read, write, Zone};
 use crate::list::List;
 use alarm_register::{
-    Action, Call, Clear, CountActive, Expire, Limits, ListActive, ListHistory, Object, PlainAction, PolicyAction, Raise, Scope,
-    Severity, Summarise, TakeAudit, Time,
+    Action, Call, Clear, CountActive, Expire, Limits, ListActive, ListHistory, Object, Operation, PlainAction, PolicyAction,
+    Raise, Scope, Severity, Summarise, TakeAudit, Time,
 };
 
 const LIMITS: Limits = Limits { active: 2, history: 3, audit: 1 };
@@ -59,8 +59,12 @@ fn a_list_comes_back_from_its_text() {
     }
 }
 
+fn read_line(line: &str) -> Result<List, String> {
+    read(&format!("limits active=2 history=3 audit=1\n{line}\n")).map_err(|fault| fault.to_string())
+}
+
 fn fault(line: &str) -> String {
-    read(&format!("limits active=2 history=3 audit=1\n{line}\n")).unwrap_err().to_string()
+    read_line(line).unwrap_err()
 }
 
 #[test]
@@ -72,6 +76,7 @@ fn faults_are_told_with_line_and_column() {
         ("2026-03-14 09:30 summary", "line 2, column 18: summary has no time"),
         ("2026-03-14 09:30 acknowledge id=a", "line 2, column 34: authorised= is missing"),
         ("2026-03-14 09:30 acknowledge id=a authorised=maybe", "line 2, column 46: authorised is yes or no"),
+        ("2026-03-14 09:30 acknowledge id=ů🚡 authorised=maybe", "line 2, column 47: authorised is yes or no"),
         ("2026-03-14 09:30 acknowledge id=a id=b authorised=no", "line 2, column 35: id is given twice"),
         ("2026-03-14 09:30 acknowledge id=a authorised=no colour=red", "line 2, column 49: acknowledge has no field colour"),
         (&format!("{raise} cause=lease object=tenant(a)"), "line 2, column 57: the cause is not a known name"),
@@ -84,6 +89,10 @@ fn faults_are_told_with_line_and_column() {
         (&format!("{raise} cause=lease-lost object=tenant(a) text=\"open"), "line 2, column 90: this quote is not closed"),
         (&format!("{raise} cause=lease-lost object=tenant(a) text=\"\\q\""), "line 2, column 91: behind a backslash"),
         (&format!("{raise} cause=lease-lost object=tenant(a) text=\"\\xff\""), "line 2, column 90: text is not UTF-8"),
+        (
+            &format!("{raise} cause=lease-lost object=tenant(a) text=\"{}\\xff\"", "x".repeat(121)),
+            "line 2, column 90: text is not UTF-8",
+        ),
         (
             &format!("{raise} cause=lease-lost object=tenant({})", "x".repeat(65)),
             "line 2, column 82: an object's string is 65 bytes long",
@@ -102,4 +111,55 @@ fn faults_are_told_with_line_and_column() {
     }
     assert!(read("").unwrap_err().to_string().starts_with("line 1, column 1: the register's limits are missing"));
     assert!(read("# nothing\nsummary\n").unwrap_err().to_string().starts_with("line 2, column 1: the register's limits"));
+}
+
+/// The line of a raise with a text as it is written. A text in quotes begins in column 91, behind the quote.
+fn with_text(written: &str) -> String {
+    format!("2026-03-14 09:30 raise id=a type=t severity=minor cause=lease-lost object=tenant(a) text={written}")
+}
+
+#[test]
+fn the_character_that_is_one_too_many_is_named_where_it_is_written() {
+    let cases = [
+        (format!("\"{}ů\"", "é".repeat(120)), 211, 121, "`ů`, U+016F"),
+        (format!("\"{}é\"", "x".repeat(124)), 211, 125, "`x`, U+0078"),
+        ("é".repeat(121), 210, 121, "`é`, U+00E9"),
+        // an escape is one character, and so are the bytes of one; a letter and its mark are two
+        (format!("\"{}\\u{{1f6a1}}\"", "\\n".repeat(120)), 331, 121, "`🚡`, U+1F6A1"),
+        (format!("\"{}\\n\"", "\\xc3\\xa9".repeat(120)), 1051, 121, "`\\n`, U+000A"),
+        (format!("\"{}\"", "e\u{301}".repeat(61)), 211, 122, "`e`, U+0065"),
+        (format!("\"{}\"", "\\u{0}".repeat(121)), 691, 121, "`\\u{0}`, U+0000"),
+        // both limits are passed: characters are what people see
+        (format!("\"{}\"", "→".repeat(121)), 211, 121, "`→`, U+2192"),
+    ];
+    for (written, column, count, named) in cases {
+        let said = format!("text has {count} characters; at most 120 are allowed, and the first too many is {named}");
+        assert_eq!(fault(&with_text(&written)), format!("line 2, column {column}: {said}"));
+    }
+    assert_eq!(fault(&with_text(&"→".repeat(86))), "line 2, column 90: text is 258 bytes long; at most 256 are allowed");
+}
+
+#[test]
+fn texts_at_their_limits_are_taken() {
+    let both = "é".repeat(112) + &"🚡".repeat(8);
+    assert_eq!((both.chars().count(), both.len()), (120, 256));
+    for text in ["x".repeat(120), "é".repeat(120), "→".repeat(85), "🚡".repeat(64), both] {
+        let list = read_line(&with_text(&text)).unwrap();
+        assert!(list.calls[0].windows(text.len()).any(|bytes| bytes == text.as_bytes()), "{text}");
+        assert_eq!(read(&write(&list, Zone::default(), false)), Ok(list));
+    }
+}
+
+#[test]
+fn a_raise_with_a_character_too_many_is_kept_as_its_bytes() {
+    let object = Object::Tenant { tenant: "a" };
+    let raise =
+        |text: &str| Raise::new(Time(0), "a", "t", Severity::Minor, "lease-lost", object).text(text).call().as_bytes().to_vec();
+    for text in ["x".repeat(121), "é".repeat(128), "x".repeat(256)] {
+        let list = List { limits: LIMITS, answer: None, calls: vec![raise(&text)] };
+        let written = write(&list, Zone::default(), false);
+        assert!(written.ends_with(" # refused: 33: the raise's text has more than 120 code points\n"), "{written}");
+        assert!(written.lines().nth(1).is_some_and(|line| line.starts_with("raw 01")), "{written}");
+        assert_eq!(read(&written), Ok(list));
+    }
 }
