@@ -104,11 +104,12 @@ def code_points(root):
 
 
 def numbers(root):
-    """The page's table, the definition's lists, the header and the Rust crate have the same numbers in the same order, and no removed one."""
+    """The page's table, the header and the Rust crate have the same numbers, by rising number, the definition's lists have them in the order
+    of the checks, and none has a removed one."""
     rows, lists = numbering.given(root), numbering.defined(root)
     for entry, name in numbering.ENTRIES.items():
         page, found = [row.number for row in rows if entry in row.entries], lists.pop(name, [])
-        if page != [0, *found]:
+        if page != [0, *sorted(found)]:
             yield f"{entry} returns {page} by {numbering.PAGE}, and {name} of {numbering.DEFINITION} is {found}"
     yield from (f"{numbering.DEFINITION}: {name} is the list of no entry point" for name in lists if name not in numbering.PARTS)
     for where, found in ((numbering.PAGE, {entry for row in rows for entry in row.entries}), (HEADER, set(numbering.functions(root)))):
