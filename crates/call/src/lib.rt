@@ -1,7 +1,7 @@
 // A call read whole: its operation byte, then its fields in order, and nothing after.
 //
 // `parse` answers the operation with its fields, as numbers and as spans of the call's bytes; or, as `Refused`, the number of the call's
-// first fault, 23 to 29. What the answer means on these bytes, `meaning` in specs/Meaning.antt, is what the definition's `parseCall`
+// first fault, 23 to 29 or 33. What the answer means on these bytes, `meaning` in specs/Meaning.antt, is what the definition's `parseCall`
 // gives (Parse.antt), and every span lies in the call, within its limit: operations look at their bytes and test nothing.
 //
 // Each operation has a reader, `.._at`, which reads by the crate of its fields and answers a call. A new operation is a variant of

@@ -1,7 +1,8 @@
 // The fields of a raise and of a clear: operations 1 and 2.
 //
 // Both name an alarm by its type and the fields of `key_fields`; a raise has more before them, its head, and behind them, the text and
-// the details. It has one rule of its own: a region that is there and has no byte is refused with 29, before the text is read.
+// the details. It has two rules of its own: a region that is there and has no byte is refused with 29, before the text is read, and a text of
+// more than 120 code points with 33, before the details are.
 // specs/Meaning.antt says which value of the definition each struct means, and within which limits its spans lie: who puts them into a
 // record relies on these.
 use fields::Cursor;
