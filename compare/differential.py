@@ -1,11 +1,13 @@
 """A list of calls stepped by the model and, beside it, by the register and by the Rust: every byte is the same, and the list balances.
 Where a case has a second list, the law of the two is checked as well: that of twins, or of one severity entered wrong."""
 import collections
+import functools
 import json
 import subprocess
 from typing import NamedTuple, Optional
 
 import imports  # noqa: F401  (finds the reading of calls, and the table of numbers)
+import characters
 import headline
 import model
 import numbering
@@ -15,8 +17,8 @@ from orders import Counters, Given, Open, Step, results, written
 from original import Original, active_shown
 from reach import Reach
 from reading import line
-from records import ROOT, alarm_of, alarm_record, put_number, unlinked
-from soundness import sound_chains
+from records import ROOT, put_number
+from twins import Twins
 
 
 class Tools(NamedTuple):
@@ -168,45 +170,15 @@ def outcomes(orders, tools, tally):
         yield outcome._replace(rust=rust.severities) if rust else outcome
 
 
-# ---- twins
-
-def masked(record):
-    """An alarm's record with text and details taken as zero."""
-    return alarm_record(alarm_of(record) | {"text": b"", "details": None})
-
-
-def masked_register(register):
-    register, chains = bytearray(register), sound_chains(register)
-    for index in chains[0] + chains[1] if chains else []:
-        register[1536 * index + 4:1536 * (index + 1)] = masked(unlinked(register, index))[4:]
-    return register
-
-
-def masked_answer(call, outcome):
-    answer = bytearray(outcome.answer)
-    if outcome.number == 0 and (call[0] in (8, 9) or answer[0] in (1, 2, 6, 7)):
-        for at in range(16, outcome.length, 1536):
-            answer[at:at + 1536] = masked(bytes(answer[at:at + 1536]))
-    return answer
-
-
-def twins_differ(order, one, other):
-    if one[:2] != other[:2]:
-        return f"twins: number and length {one[:2]} and {other[:2]}"
-    if isinstance(order, Step) and masked_answer(order.call, one) != masked_answer(order.call, other):
-        return "twins: answers differ outside text and details"
-    if masked_register(one.register) != masked_register(other.register):
-        return "twins: registers differ outside text and details"
-    return None
-
-
 # ---- a case
 
 def law(case, tally):
     """What of the outcomes of an order breaks the law of a case's two lists; one list has none."""
     if case.mistaken:
         return Reach(case.orders, case.mistaken, tally).fault
-    return twins_differ if case.twin else lambda order, outcome: None
+    if case.twin:
+        return Twins(case.orders, case.twin, functools.partial(characters.count_twins, tally)).fault
+    return lambda order, outcome: None
 
 
 def checked(case, tools, tally):
@@ -239,8 +211,9 @@ def result_name(order, outcome):
 
 
 def counted(orders, tools, tally):
-    """The outcomes, each counted by its name; of summaries and of raises, their kinds."""
-    by_rust, met = bool(tools.oracle) and for_the_rust(orders), raises.Met(tally)
+    """The outcomes, each counted by its name; of summaries, raises and texts, their kinds."""
+    by_rust = bool(tools.oracle) and for_the_rust(orders)
+    kinds = [raises.Met(tally), characters.Met(tally, by_rust)]
     for order, outcome in zip(orders, outcomes(orders, tools, tally)):
         if isinstance(order, Step):
             tally["calls"] += 1
@@ -250,7 +223,8 @@ def counted(orders, tools, tally):
             tally[name] += 1
         if name == SUMMARIES:
             headline.count(tally, active_shown(outcome.register))
-        met.see(order, outcome)
+        for met in kinds:
+            met.see(order, outcome)
         yield outcome
 
 

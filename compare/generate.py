@@ -1,19 +1,16 @@
 """Lists of calls from a seed: every operation, few keys and ids, small limits, times at both ends, boundary lengths, damaged
-calls and registers, short answers; and lists that are the same on every run."""
+calls and registers, short answers."""
 import functools
-import itertools
-import random
 
 import imports  # noqa: F401  (finds the calls of tests/)
 import cases
 import model
 import reach
 from calls import call
+from long_texts import MOST, MOST_BYTES, letters, text
 from orders import Counters, Given, Open, Step
-from reading import NAMES, OBJECTS, Call, Refused
-from records import CHAINS, MOST_RAISES, WIDTH, alarm_record, event_record, put_link, put_number, put_raises
-from register import Register
-from soundness import sound_chains
+from reading import NAMES, Call, Refused
+from records import CHAINS, MOST_RAISES, WIDTH, alarm_record, event_record, put_link, put_number
 
 TIMES = [0, 1, 2, 3, 100, -1, -2, 255, 256, 2**63 - 1, 2**63 - 2, -2**63, 1 - 2**63]
 IDS = [b"a", b"b", b"c", b"d", b"", "ü".encode(), b"i" * 64]
@@ -24,7 +21,8 @@ OBJECTS_SENT = [(6, b"a"), (6, b"b"), (6, b"c"), (1, b"a:b", b"c"), (1, b"a", b"
 SCOPES = [(0, b"a"), (0, b""), (1, b"t"), (1, b"s" * 64), (2,)]
 OPTIONS = [None, None, None, b"x", b"", b"y" * 64]
 REGIONS = [None, None, None, b"r", "Grün".encode(), b"r" * 128]
-TEXTS = [b"", b"x", "café €".encode(), b"t" * 256, b"t" * 255]
+TEXTS = [b"", b"x", "café €".encode(), b"t" * MOST, text(MOST, MOST_BYTES)]
+REASONS = [b"", b"x", "café €".encode(), b"t" * 256, b"t" * 255]
 DETAILS = [None, None, b"", b"{}", b"\xff\0", b"d" * 512]
 OPERATIONS = [1] * 30 + [2] * 10 + [3, 4] * 4 + [5, 6] * 9 + [7] * 6 + [8, 9, 10, 11] * 2 + [12] * 5
 
@@ -35,15 +33,45 @@ def odd_calls():
     return cases.calls()
 
 
+# ---- texts: at most 120 code points in a raise (M-104), and at most 256 bytes there and in a record
+
+def text_of(rng, points, size):
+    """A text of so many code points in so many bytes, or in as few or as many as they can have."""
+    found = letters(points, max(points, min(size, 4 * points)))
+    rng.shuffle(found)
+    return b"".join(found)
+
+
+def text_within(rng, most):
+    """A text of at most so many code points, and at most 256 bytes; some are as long as they may be."""
+    points = rng.choice([0, 64, MOST - 1, most, rng.randint(0, most)])
+    return text_of(rng, points, rng.choice([0, MOST_BYTES, rng.randint(0, MOST_BYTES)]))
+
+
+def text_beside_limits(rng):
+    """A text at a limit or beside it; some are not UTF-8."""
+    points = rng.choice([MOST - 1, MOST, MOST + 1, MOST + 1, rng.randint(64, MOST_BYTES)])
+    found = text_of(rng, points, rng.choice([0, 2 * points, MOST_BYTES - 1, MOST_BYTES, MOST_BYTES + 1]))
+    return found if rng.random() < 0.9 else found[:-1] + rng.choice([b"\xc3", b"\xff"])
+
+
+def text_sent(rng):
+    """A raise's text: most are within both limits."""
+    chance = rng.random()
+    return text_beside_limits(rng) if chance < 0.1 else text_within(rng, MOST) if chance < 0.2 else rng.choice(TEXTS)
+
+
+# ---- calls
+
 def values(rng, objects):
     """Values of all fields."""
     some = rng.choice
     return dict(
         time=some(TIMES), id=some(IDS[:5] if rng.random() < 0.9 else IDS), type=some(TYPES), severity=rng.randrange(6),
         cause=some(CAUSES) if rng.random() < 0.8 else some(NAMES), object=some(objects), tenant=some(OPTIONS), slice=some(OPTIONS[2:]),
-        region=some(REGIONS), text=some(TEXTS), details=some(DETAILS), authorised=rng.random() < 0.8, principal=some(IDS),
-        reason=some(TEXTS), scope=some(SCOPES), correlation=some(OPTIONS), critical_allowed=rng.random() < 0.4,
-        denial=some(TEXTS[:3]), severity_or_all=some([255, 255, *range(6)]), n=some([0, 1, 1, 2, 3, 255, 256, 65535]))
+        region=some(REGIONS), text=text_sent(rng), details=some(DETAILS), authorised=rng.random() < 0.8, principal=some(IDS),
+        reason=some(REASONS), scope=some(SCOPES), correlation=some(OPTIONS), critical_allowed=rng.random() < 0.4,
+        denial=some(REASONS[:3]), severity_or_all=some([255, 255, *range(6)]), n=some([0, 1, 1, 2, 3, 255, 256, 65535]))
 
 
 def plain_values(rng, objects):
@@ -119,7 +147,8 @@ def refused_opening(rng):
 
 
 def forged(rng, a, h, e):
-    """A sound register that no list of calls need reach: equal ids and keys, times, states and raises of all kinds, any order of records."""
+    """A sound register that no list of calls need reach: equal ids and keys, times, states and raises of all kinds, texts of up to 256 code
+    points, any order of records."""
     order = list(range(1, 1 + a + h + e))
     rng.shuffle(order)
     data = bytearray(WIDTH * (1 + len(order)))
@@ -147,7 +176,8 @@ def forged_record(rng, chain, fields):
     key = model.key_of(fields) if rng.random() < 0.8 else bytes(16)
     state = rng.randrange(4 if chain == "active" else 6)
     raises = rng.choice([0, 1, MOST_RAISES - 1, MOST_RAISES, rng.randrange(MOST_RAISES)])
-    return alarm_record(fields | times | {"key": key, "state": state, "cleared_at": rng.choice([None, *TIMES]), "raises": raises})
+    alarm = {"key": key, "state": state, "cleared_at": rng.choice([None, *TIMES]), "raises": raises}
+    return alarm_record(fields | times | alarm | {"text": text_within(rng, rng.choice([MOST, MOST_BYTES]))})
 
 
 def damaged(rng, data):
@@ -183,7 +213,7 @@ def from_registers(rng, count):
 
 
 def twin(rng, orders):
-    """The list with other texts and details in its good raises."""
+    """The list with other texts, within both limits, and other details in its good raises."""
     for order in orders:
         if isinstance(order, Step) and order.call[:1] == b"\1":
             try:
@@ -191,7 +221,7 @@ def twin(rng, orders):
             except Refused:
                 yield order
                 continue
-            found |= {"text": "".join(rng.choices("aé€", k=rng.randrange(85))).encode(), "details": rng.choice([None, rng.randbytes(rng.randrange(513))])}
+            found |= {"text": text_within(rng, MOST), "details": rng.choice([None, rng.randbytes(rng.randrange(513))])}
             order = order._replace(call=call(1, **found))
         yield order
 
@@ -232,69 +262,3 @@ def one_severity(rng, count):
         behind.insert(at, tight_report(rng, (severity, other)))
     orders = [*before, raised, *behind]
     return orders, reach.mistaken(orders, len(before), other)
-
-
-# ---- lists that are the same on every run
-
-ALPHABET = [call(1), call(1, severity=5, text=b"x"), call(1, id=b"b", object=(6, b"b"), time=1), call(2, time=-1), call(2, object=(6, b"b")),
-            call(3), call(4, id=b"b"), call(5), call(6), call(6, critical_allowed=1), call(5, authorised=0), call(7, time=1), call(12, n=1)]
-
-
-def short_lists():
-    """Every list of three calls of an alphabet, with the reports after it, on registers of the smallest limits."""
-    reports = [Step(data, ample((2, 2, 1)), 0x5A) for data in (call(8), call(9), call(10), call(11), call(12, n=9))]
-    for limits_ in ((1, 1, 1), (2, 2, 1)):
-        for calls in itertools.product(ALPHABET, repeat=3):
-            yield [opened(limits_), *(Step(data, 1552, 0xA5) for data in calls), *reports]
-
-
-def headlines():
-    """The summary of no alarm; and of every two alarms of four severities, each left as raised, acknowledged or suppressed, the first by plain
-    calls and the second by policy calls, once more when both are raised again as critical."""
-    yield [opened((2, 4, 1)), Step(call(11), 1552, 0xA5)]
-    for severities, ops in itertools.product(itertools.product((0, 3, 4, 5), repeat=2), itertools.product((None, 3, 4), (None, 5, 6))):
-        alarms = [dict(id=name, object=(6, name), severity=severity, critical_allowed=1) for name, severity in zip((b"a", b"b"), severities)]
-        calls = [*(call(1, **alarm) for alarm in alarms), *(call(op, **alarm) for op, alarm in zip(ops, alarms) if op), call(11)]
-        calls += [*(call(1, **alarm | dict(severity=5)) for alarm in alarms), call(11)]
-        yield [opened((2, 4, 1)), *(Step(data, 1552, 0xA5) for data in calls)]
-
-
-def holding(raises):
-    """A register with one active alarm, of the worked call, that holds these raises; its entry in history holds others."""
-    data = bytearray(WIDTH * 7)
-    model.open(data, 2, 3, 1)
-    model.step(data, call(1), bytearray(1552))
-    (index,), (entry,), *_ = sound_chains(data)
-    put_raises(data, raises, index)
-    put_raises(data, MOST_RAISES - raises, entry)
-    return Given(bytes(data))
-
-
-def held_raises():
-    """An alarm that holds no or one raise, or almost or just the most, is left as raised, acknowledged or suppressed; it is raised twice,
-    acknowledged, cleared or expired, and raised anew, with lists of alarms between."""
-    for raises, op, end in itertools.product((0, 1, MOST_RAISES - 1, MOST_RAISES), (None, 3, 4), (call(2), call(7, time=1))):
-        calls = [*([call(op)] if op else []), call(1), call(1), call(5), call(8), end, call(1), call(9)]
-        yield [holding(raises), *(Step(data, ample((2, 3, 1)), 0xA5) for data in calls)]
-
-
-def every_call():
-    """The calls of tests/calls one after the other on a register that holds a few alarms, each kind of object among them."""
-    objects = [(kind, *(b"a", b"b", 1)[:len(parts)]) for kind, parts in OBJECTS.items()]
-    room_ = ample((9, 5, 2))
-    start = [opened((9, 5, 2)), *(Step(call(1, id=b"%d" % i, object=o), room_) for i, o in enumerate(objects))]
-    found = odd_calls()
-    for at in range(0, len(found), 100):
-        yield start + [Step(data, room_, 0xC3) for data in found[at:at + 100]]
-
-
-def largest():
-    """A register of the largest limit whose free chain begins at its end: indices that two bytes do not hold."""
-    most = 65535
-    count = most + 2
-    data = bytearray(WIDTH * (1 + count))
-    for name, value in (("A", most), ("H", 1), ("E", 1)):
-        put_number(data, name, value)
-    Register(data, [[], [], [], list(range(count, 0, -1))]).link()
-    calls = [call(1), call(1, **{"id": b"b", "object": (6, b"b")}), call(5), call(2), call(8), call(9)]
-    return [Open((most, 1, 1), len(data), 0x11), Given(bytes(data)), *(Step(sent, 16 + 4 * WIDTH) for sent in calls)]

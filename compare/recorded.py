@@ -7,9 +7,10 @@ compare/recorded.py write [FOLDER]   writes them; FOLDER holds the six Rust file
 A line of stdout is the number, the answer's length, and the SHA-256 of the answer's bytes. The Rust's answers fix all bytes of an answer
 but the order of what a HashMap holds: that is document 01's, the order in which alarms were raised; but a summary's worst severity and
 readiness where the Rust holds suppressed alarms: these leave them aside (M-103, see original.py); and but the raises of alarms, which are
-by the number of its answers (M-100, see raises.py).
+by the number of its answers (M-100, see raises.py). Refusals are the oracle's, which does not give the Rust a raise that 33 refuses (M-104).
 """
 import collections
+import contextlib
 import functools
 import hashlib
 import json
@@ -17,6 +18,8 @@ import random
 import sys
 
 import imports  # noqa: F401  (finds the list of checks)
+import always
+import characters
 import generate
 import headline
 import model
@@ -159,18 +162,21 @@ def some_list(rng):
             return orders[:1] + [order._replace(room=min(order.room, MOST_ANSWER)) for order in orders[1:]]
 
 
+def lines_of(oracle, orders):
+    """The line of each order by the Rust."""
+    recorder, printed = Recorder(), ran(oracle, orders).decode().splitlines()
+    return [recorder.line(order, line) for order, line in zip(orders, printed, strict=True)]
+
+
 def recorded(oracle):
-    """Lists of calls, and the line of each order by the Rust."""
-    rng, orders, lines, lists = random.Random(SEED), [], [], 0
-    while lists < LISTS:
-        found, recorder = some_list(rng), Recorder()
-        try:
-            lines += [recorder.line(order, printed) for order, printed in zip(found, ran(oracle, found).decode().splitlines(), strict=True)]
-        except Cut:
-            continue
-        orders += found
-        lists += 1
-    return written(orders), "".join(lines)
+    """Lists by chance, and those of texts around their limits, with the line of each order by the Rust."""
+    rng, found = random.Random(SEED), []
+    while len(found) < LISTS:
+        orders = some_list(rng)
+        with contextlib.suppress(Cut):
+            found.append((orders, lines_of(oracle, orders)))
+    found += [(orders, lines_of(oracle, orders)) for orders in always.texts()]
+    return written([order for orders, _ in found for order in orders]), "".join(line for _, lines in found for line in lines)
 
 
 # ---- checks
@@ -209,6 +215,11 @@ def every_raise(_root):
     yield from raises.unmet(tally(), False, False)
 
 
+def every_text(_root):
+    """The lists have texts at both limits and beyond, and calls in which 33 comes before other faults."""
+    yield from characters.missing(tally(), characters.KINDS)
+
+
 def by_rust(_root):
     try:
         oracle = programs.oracle()
@@ -223,6 +234,7 @@ CHECKS = {
     "every number and code is recorded": every_result,
     "summaries of every kind are recorded": every_headline,
     "raises of every kind are recorded": every_raise,
+    "texts of every kind are recorded": every_text,
     "the Rust gives what is recorded": by_rust,
 }
 

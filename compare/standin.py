@@ -9,11 +9,12 @@ import struct
 import sys
 
 import imports  # noqa: F401  (finds the reading of calls)
+import wrong_characters
+import wrong_raises
 from differential import modelled
 from headline import ACKNOWLEDGED, SUMMARY, SUPPRESSED, without, worst
 from orders import Counters, Given, Open, Step
 from original import active_shown
-from wrong_raises import WRONG, WRONG_ON_GIVEN
 
 FAULT = os.environ.get("FAULT", "")
 
@@ -123,9 +124,9 @@ SUMMARIES = {
 }
 
 
-# ---- wrong counts of raises (M-100): with these the model itself is another
+# ---- wrong counts of raises (M-100) and wrong measures of texts (M-104): with these the model itself is another
 
-RAISES = WRONG | WRONG_ON_GIVEN
+MODELS = wrong_raises.WRONG | wrong_raises.WRONG_ON_GIVEN | wrong_characters.WRONG | wrong_characters.WRONG_ON_GIVEN
 
 
 # ---- what the driver writes
@@ -149,9 +150,9 @@ def write(out, orders):
 
 
 def main():
-    if FAULT and FAULT not in FAULTS | SUMMARIES | RAISES:
+    if FAULT and FAULT not in FAULTS | SUMMARIES | MODELS:
         raise SystemExit(f"no fault is named {FAULT}")
-    with RAISES.get(FAULT, contextlib.nullcontext)():
+    with MODELS.get(FAULT, contextlib.nullcontext)():
         write(sys.stdout.buffer, list(read(sys.stdin.buffer.read())))
 
 

@@ -1,6 +1,6 @@
 #!/usr/bin/env python3
 """Whether the comparison notices: the model in the register's place, with and without faults, twins that are none, a balance that fails,
-a severity that reaches too far, a headline that is not M-103's, raises that are not M-100's."""
+a severity that reaches too far, a headline that is not M-103's, raises that are not M-100's, texts that are not measured as by M-104."""
 import collections
 import os
 import pathlib
@@ -12,32 +12,37 @@ import imports  # noqa: F401  (finds the list of checks)
 import generate
 import standin
 import test_balance
+import test_characters
+import test_characters_met
 import test_headline
 import test_raises
 import test_raises_met
 import test_reach
 import test_reach_figures
+import wrong_characters
 import wrong_raises
 from calls import call
 from checklist import run
-from differential import Case, Tools, checked, fault_of, masked_register, modelled, report, shrunk
+from differential import Case, Tools, checked, fault_of, modelled, report, shrunk
 from orders import Step
 from records import LAYOUT, unlinked
+from twins import differ, masked_register
 
 STANDIN = Tools(driver=str(pathlib.Path(standin.__file__).resolve()))
 
 
 def some_list():
     rng = random.Random(8)
+    head = [Step(data, 2000, 1) for data in (call(1), call(1, object=(6, b"b")), call(2))]
     tail = [Step(data, 2000, 1) for data in (call(2), call(1), call(1, id=b"b", severity=4), call(2), call(3, id=b"i" * 65), call(11))]
-    return [generate.opened((2, 3, 1)), *generate.steps(rng, 60, 8000), *tail, Step(call(1), 2000, 1), Step(call(1, type=b"z"), 2000, 1)]
+    return [generate.opened((2, 3, 1)), *head, *generate.steps(rng, 60, 8000), *tail, Step(call(1), 2000, 1), Step(call(1, type=b"z"), 2000, 1)]
 
 
 def faultless(_root):
     os.environ["FAULT"] = ""
     tally = collections.Counter()
     checked(Case(some_list()), STANDIN, tally)
-    if tally["calls"] != 68:
+    if tally["calls"] != 71:
         yield f"{tally['calls']} calls"
 
 
@@ -75,14 +80,14 @@ def twins(_root):
         yield f"twins differ: {fault_of(Case(orders, good), Tools())}"
     for name, values in {"severity": dict(severity=1), "time": dict(time=9), "tenant": dict(tenant=b"x")}.items():
         first, *rest = orders
-        one, other = (Case([first, Step(data, 2000), *rest]) for data in (call(1), call(1, **values)))
-        if not fault_of(Case(one.orders, other.orders), Tools()):
+        one, other = ([first, Step(data, 2000), *rest] for data in (call(1), call(1, **values)))
+        if not any(map(differ, one, modelled(one), modelled(other))):
             yield f"lists that differ in {name} pass for twins"
 
 
 def mask(_root):
     """Masking zeroes the bytes of text and details, and no other."""
-    orders = [generate.opened((1, 1, 1)), Step(call(1, text=b"t" * 256, details=b"d" * 512), 2000)]
+    orders = [generate.opened((1, 1, 1)), Step(call(1, text=test_characters.FULL, details=b"d" * 512), 2000)]
     register = bytes([*modelled(orders)][-1].register)
     plain = unlinked(masked_register(register), 1)
     fields = LAYOUT["alarm"]
@@ -97,10 +102,14 @@ CHECKS = {
     **{f"a wrong summary is noticed: {name}": noticed(name, test_headline.some_list) for name in standin.SUMMARIES},
     **{f"wrong raises are noticed: {name}": noticed(name, test_raises_met.some_list) for name in wrong_raises.WRONG},
     **{f"wrong raises are noticed: {name}": noticed(name, test_raises_met.given_list) for name in wrong_raises.WRONG_ON_GIVEN},
+    **{f"wrong texts are noticed: {name}": noticed(name, test_characters_met.some_list) for name in wrong_characters.WRONG},
+    **{f"wrong texts are noticed: {name}": noticed(name, test_characters_met.given_list) for name in wrong_characters.WRONG_ON_GIVEN},
     "programs that end": ended,
     "twins": twins,
     "the mask": mask,
     **test_balance.CHECKS,
+    **test_characters.CHECKS,
+    **test_characters_met.CHECKS,
     **test_headline.CHECKS,
     **test_raises.CHECKS,
     **test_raises_met.CHECKS,

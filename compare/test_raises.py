@@ -3,10 +3,11 @@ tell wrong ways to count from the right one. compare/test_differential.py runs t
 import model
 import wrong_raises
 from calls import call
-from differential import Outcome, twins_differ
+from differential import Outcome
 from orders import Step
 from records import LAYOUT, MOST_RAISES, RAISES_WIDTH, WIDTH, alarm_of, alarm_record, put_raises, raises_at, unlinked
 from test_model import RB, Station, after, unlike
+from twins import differ
 
 RAISE, RAISE_B, CLEAR, EXPIRE = (1, {}), (1, RB), (2, {}), (7, dict(time=1))
 ACKNOWLEDGE, SUPPRESS, BY_POLICY, SUPPRESS_BY_POLICY = (3, {}), (4, {}), (5, {}), (6, {})
@@ -195,7 +196,7 @@ def twins(_root):
     for place, start in (("register", WIDTH * one.chain("active")[0]), ("answer", 16)):
         changed = bytearray(getattr(outcome, place))
         changed[start + LAYOUT["alarm"]["raises"]] ^= 1
-        found = twins_differ(order, outcome, outcome._replace(**{place: changed}))
+        found = differ(order, outcome, outcome._replace(**{place: changed}))
         yield from unlike(place, found, f"twins: {place}s differ outside text and details")
 
 

@@ -5,6 +5,7 @@ import json
 import shutil
 from unittest import mock
 
+import always
 import differential
 import generate
 import raises
@@ -198,7 +199,7 @@ def by_answers(_root):
 
 def lists_met(_root):
     """The lists that every run with the register has meet what needs a given register."""
-    total = sum(map(tally_of, generate.held_raises()), collections.Counter())
+    total = sum(map(tally_of, always.held_raises()), collections.Counter())
     yield from (f"no {name}" for name in ON_BYTES if not total[tallied(name)])
 
 

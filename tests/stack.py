@@ -17,15 +17,16 @@ from header import HEADER, LIBRARY, WARNINGS
 from numbering import refusals
 
 sys.path.insert(1, str(HERE / "compare"))
+import always
 import generate
 from calls import PLAIN, call
 from cases import mixed
 from orders import Open, Step, written
-from reading import LONGEST, NAMES, OPERATIONS
+from reading import LONGEST, MOST_CODE_POINTS, NAMES, OPERATIONS
 
 LIMIT = int(re.search(r"needs \d+ KiB \(([\d,]+) bytes\) of stack", (HERE / HEADER).read_text(encoding="utf-8")).group(1).replace(",", ""))
 PROGRAM = HERE / "tests/stack.c"
-CODE_POINTS = 120  # the most of a raise's text
+CODE_POINTS = MOST_CODE_POINTS["text"]  # of a raise
 OPENING, OTHER = 0, 13  # beside the operations 1 to 12
 PAIRS = "pairs of severity and cause"
 TITLES = {OPENING: "opening", **{op: f"{op} {name}" for op, (name, _) in OPERATIONS.items()}, OTHER: "calls without an operation"}
@@ -35,7 +36,7 @@ ANSWERS, REFUSALS = {(0, code) for code in range(1, 12)}, {(number, 0) for numbe
 # ---- lists of calls
 
 def largest(text, cause):
-    """Values of all fields, with each string as long as it may be; `text(n)` gives one of n bytes."""
+    """Values of all fields, with each string as long as it may be, in bytes and in code points; `text(n)` gives one of n bytes."""
     strings = {name: text(n) for name, n in LONGEST.items() if name in PLAIN}
     strings["text"] = strings["text"].decode()[:CODE_POINTS].encode()
     return strings | {"cause": cause, "object": (8, text(64), text(64), 65535), "scope": (0, text(64))}
@@ -83,7 +84,7 @@ def lists():
         yield name, day(values, 2) + day(values, 99)
     for causes in ([b"lease-lost"], NAMES, [b"other:pair.%d" % i for i in range(1100)]):
         yield f"{PAIRS}: {len(causes)}", many(causes)
-    yield "calls, good and damaged", [order for orders in generate.every_call() for order in orders]
+    yield "calls, good and damaged", [order for orders in always.every_call() for order in orders]
     rng = random.Random("stack")
     yield "lists by chance", [order for _ in range(20) for order in generate.fresh(rng, 100)]
     yield "registers, sound and not", generate.from_registers(rng, 1000)

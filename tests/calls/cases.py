@@ -1,55 +1,9 @@
 """Calls, good and damaged: `calls()` lists their bytes. What they say is left to reading.py."""
 import random
 
+import long_texts
+from fields import PLAIN, joined, option, pieces, scoped, string, thing, time, u32
 from reading import FIELDS, LONGEST, NAMES, OBJECTS, VALUES, WHITE, encoded
-
-# ---- the bytes of a field
-
-
-def u32(n):
-    return n.to_bytes(4, "big")
-
-
-def string(s):
-    return u32(len(s)) + s
-
-
-def option(s):
-    return b"\0" if s is None else b"\1" + string(s)
-
-
-def time(t):
-    return t.to_bytes(8, "big", signed=True)
-
-
-def joined(op, changes=()):
-    """A call of short fields, of which some are changed: {field: bytes}."""
-    return bytes([op]) + b"".join(pieces(op, changes))
-
-
-def pieces(op, changes=()):
-    changes = dict(changes)
-    return [changes.get(field, PLAIN[field]) for field in FIELDS[op]]
-
-
-def thing(kind, first=b"nf", second=b"s1", queue=7):
-    """An affected object."""
-    parts = {"string?": option(second), "queue": queue.to_bytes(2, "big")}
-    strings = [string(first), string(second or b"")]
-    return bytes([kind]) + b"".join(parts[part] if part in parts else strings[i] for i, part in enumerate(OBJECTS[kind]))
-
-
-def scoped(scope, s=b"sc"):
-    return bytes([scope]) + (string(s) if scope < 2 else b"")
-
-
-PLAIN = {
-    "time": time(1_700_000_000_000_000_000), "id": string(b"a1"), "type": string(b"t"), "severity": b"\3",
-    "cause": string(b"lease-lost"), "object": thing(8), "tenant?": option(b"te"), "slice?": option(b"sl"),
-    "region?": option(b"re"), "text": string("Tür".encode()), "details?": option(b"{\xff}"), "authorised": b"\1",
-    "principal": string(b"op"), "reason": string(b"why"), "scope": scoped(1), "correlation?": option(b"co"),
-    "critical-allowed": b"\0", "denial": string(b"no"), "severity-or-all": b"\4", "n": b"\0\2",
-}
 
 # ---- strings
 
@@ -156,13 +110,15 @@ def faults(field):
 
 
 def string_faults(name):
-    """A string that is too long, or one whose length is; not UTF-8; no cause."""
+    """A string that is too long, or one whose length is; not UTF-8; too many code points; no cause."""
     limit = LONGEST[name]
     yield string(b"a" * (limit + 1))
     yield from (u32(n) + b"a" for n in (limit + 1, limit + 256, 0x01000001, 2**32 - 4, 2**32 - 1))
     if name != "details":
         yield from (string(bad) for bad in (b"\xff", b"a\xc3", b"\xed\xa0\x80", b"\xf4\x90\x80\x80", b"\xc0\x80z"))
         yield string(b"a" * (limit - 2) + b"\xe2\x82")
+    if name == "text":
+        yield string(long_texts.TOO_LONG)
     if name == "cause":
         yield from (string(bad) for bad in (b"", b"z", b" lease-lost", b"other:a", b"other:a. b"))
 
@@ -294,5 +250,6 @@ def calls():
     found += [joined(3 + k % 2, {"id": string(s)}) for k, s in enumerate(texts())]
     found += [joined(1, {"details?": option(s)}) for s in NOT_UTF8[:3] + [bytes(range(256)), bytes(range(255, -1, -1)) * 2]]
     found += [joined(1 + k % 2, {"cause": string(cause)}) for k, cause in enumerate(causes())]
+    found += long_texts.calls()
     found += [*damaged(), *twice_damaged(rng), *cut_or_longer(), *by_chance(rng)]
     return list(dict.fromkeys(found))

@@ -8,8 +8,10 @@ against calls whose lines are known, and the list against the refusals that each
 import sys
 from pathlib import Path
 
-from cases import calls, causes, joined, option, string, texts
-from reading import FIELDS, OBJECTS, VALUES, WHITE, WIDTHS, Call, Refused, characters, encoded, line, stored
+import long_texts
+from cases import calls, causes, texts
+from fields import joined, option, string
+from reading import FIELDS, OBJECTS, VALUES, WHITE, WIDTHS, Call, Refused, characters, code_points, encoded, line, stored
 
 CRATE = Path(__file__).resolve().parents[2] / "crates/calls_replay"
 
@@ -20,7 +22,18 @@ def raised(cause=b"lease-lost", region=None, text=b""):
     return PLAIN_RAISE.format(cause=string(cause).hex(), region=option(region).hex(), text=string(text).hex())
 
 
-# calls whose lines follow from single sentences of document 01
+def saying(text):
+    """The line of a raise with this text."""
+    return f"raise 0 x61 x74 3 x6c656173652d6c6f7374 6 x61 - - - x{text.hex()} -"
+
+
+# texts of at most 120 code points and 256 bytes, and longer ones of at most 256 bytes
+FITTING = [b"x" * 120, "é".encode() * 120, "\U0001F6A1".encode() * 64, "e\u0301".encode() * 60, "€".encode() * 85, b"\0" * 120,
+           "é".encode() * 60 + "€".encode() * 38 + b"x" * 22]
+TOO_MANY = [b"x" * 121, b"x" * 256, "é".encode() * 121, "e\u0301".encode() * 61, b"\0" + b"x" * 120, b"x" * 60 + b"\0" + b"x" * 60,
+            "é".encode() * 61 + "€".encode() * 37 + b"x" * 23]
+
+# calls whose lines follow from single sentences of document 01, or of document 02's M-104
 KNOWN = [
     (raised(), "raise 0 x61 x74 3 x6c656173652d6c6f7374 6 x61 - - - x -"),
     (raised(b"other: a.b "), "raise 0 x61 x74 3 x6f746865723a612e62 6 x61 - - - x -"),
@@ -33,6 +46,18 @@ KNOWN = [
     (raised(b"z")[:-2], "refused 28"),
     (raised(region=b"", text=b"\xff"), "refused 29"),
     (raised() + "00", "refused 24"),
+    *((raised(text=text), saying(text)) for text in FITTING),
+    *((raised(text=text), "refused 33") for text in TOO_MANY),
+    (raised(text=b"x" * 257), "refused 26"),
+    (raised(text="€".encode() * 120), "refused 26"),
+    (raised(text=b"x" * 121 + b"\xff"), "refused 27"),
+    (raised(text=b"x" * 121)[:-2] + "02", "refused 33"),
+    (raised(text=b"x" * 121)[:-2], "refused 33"),
+    (raised(text=b"x" * 121) + "00", "refused 33"),
+    (raised(region=b"", text=b"x" * 121), "refused 29"),
+    (raised(region=b"x" * 121), f"raise 0 x61 x74 3 x6c656173652d6c6f7374 6 x61 - - x{'78' * 121} x -"),
+    (f"05 0000000000000000 00000001 61 00000000 00 00000100 {'78' * 256} 02 00 00 01 00000000",
+     f"acknowledge-policy 0 x61 x - x{'78' * 256} 2 - 0 1 x"),
     ("02 0000000000000000 00000001 74 0000000a 6c656173652d6c6f7374 04 00000000 01 00000000 00 00 01 00000000",
      "clear 0 x74 x6c656173652d6c6f7374 4 x x - - x"),
     ("03 ffffffffffffffff 00000000 01", "acknowledge 18446744073709551615 x 1"),
@@ -53,12 +78,11 @@ KNOWN = [
 
 
 def in_python(s):
-    """Whether s is UTF-8, by Python."""
+    """How many code points s has, by Python; None where it is not UTF-8."""
     try:
-        s.decode("utf-8")
+        return len(s.decode("utf-8"))
     except UnicodeDecodeError:
-        return False
-    return True
+        return None
 
 
 def stored_in_python(s):
@@ -70,7 +94,7 @@ def stored_in_python(s):
 
 
 def possible():
-    """Operation, field and number of each refusal that document 01 allows."""
+    """Operation, field and number of each refusal that documents 01 and 02 allow."""
     def strings(name):
         found = {24, 26} | ({25} if name.endswith("?") else set()) | ({27} if name != "details?" else set())
         return found | ({28} if name == "cause" else set())
@@ -86,6 +110,7 @@ def possible():
             if field == "scope":
                 yield from ((op, f"scope {scope}", number) for scope in (0, 1) for number in strings("scope"))
     yield 1, "region?", 29
+    yield 1, "text", 33
 
 
 def refusals(data):
@@ -100,8 +125,8 @@ def refusals(data):
 def tried(listed):
     """The faults that the trials find."""
     short = [bytes([a]) for a in range(256)] + [bytes([a, b]) for a in range(256) for b in range(256)]
-    for s in [*short, *texts()]:
-        if (characters(s) is not None) != in_python(s):
+    for s in [*short, *texts(), *long_texts.texts()]:
+        if (None if characters(s) is None else code_points(s)) != in_python(s):
             yield f"UTF-8: {s.hex()}"
     for c in range(0, 0x110000, 61):
         if not 0xD800 <= c < 0xE000 and encoded(c) != chr(c).encode():

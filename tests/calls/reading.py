@@ -1,4 +1,4 @@
-"""What a call says, read from document 01's sections "The call enters" and "Cause names", and from nothing else here.
+"""What a call says, read from document 01's sections "The call enters" and "Cause names" and document 02's M-104, and from nothing else here.
 
 `Call(call).read()` gives the operation and the values of its fields: a number (a time as the unsigned number of its eight
 bytes), the bytes of a string, None for an absent one; an object is its kind and its parts, a scope its number and its
@@ -33,6 +33,8 @@ LONGEST = {
     "id": 64, "type": 64, "string": 64, "tenant": 64, "slice": 64, "principal": 64, "correlation": 64, "scope": 64,
     "cause": 96, "region": 128, "denial": 128, "text": 256, "reason": 256, "details": 512,
 }
+# "A raise's text has at most 120 code points" (M-104); no other operation has a field of this name
+MOST_CODE_POINTS = {"text": 120}
 # bytes with few values
 VALUES = {
     "severity": range(6), "severity-or-all": [*range(6), 255], "authorised": range(2), "critical-allowed": range(2),
@@ -76,6 +78,11 @@ def characters(s):
         found.append(part)
         at += len(row)
     return found
+
+
+def code_points(s):
+    """How many code points s has, which is UTF-8: each row is one."""
+    return len(characters(s))
 
 
 def encoded(c):
@@ -156,6 +163,8 @@ class Call:
         s = self.take(n)
         if name != "details" and characters(s) is None:
             self.refuse(27)
+        if name in MOST_CODE_POINTS and code_points(s) > MOST_CODE_POINTS[name]:
+            self.refuse(33)
         if name == "cause":
             s = stored(s)
             if s is None:

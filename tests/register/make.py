@@ -49,14 +49,14 @@ def register(limits, chains, records, successes=0, failures=0):
     return data
 
 
-# All kinds of chain, options present and absent, raises of 0 and others. Every alarm may stand on the active chain, so that nothing but
-# links tells some damages.
+# All kinds of chain, options present and absent, raises of 0 and others; texts of 121 code points and of 256, which no raise may have, on
+# both chains (M-104). Every alarm may stand on the active chain, so that nothing but links tells some damages.
 SMALL = register([2, 3, 1], [[5, 2], [1, 4], [3], [6]], {
     5: made_alarm(0xA5, 5, 2, 8, [b"nf", b"n3"], MOST_RAISES, queue=257, id=b"a", type=b"link", cause=b"lease-lost", tenant=b"t", slice=b"",
-                  region="Gr\u00fcn".encode(), text="caf\u00e9 \u20ac".encode(), details=b"\xff\x00{}"),
+                  region="Gr\u00fcn".encode(), text=("caf\u00e9 \u20ac" + "x" * 115).encode(), details=b"\xff\x00{}"),
     2: made_alarm(0x5A, 0, 3, 4, [b"store", b"shard"], 0, id=b"b", type=b"", cause=b"other:a.b", text=b"x" * 256),
-    1: made_alarm(0x00, 3, 0, 6, [b"a"], 0, cleared=7, id=b"", type=b"t", cause=b"sbi-overload", text=b"", details=b""),
-    4: made_alarm(0xFF, 1, 1, 1, [b"amf", b""], 0x00010203, cleared=0, id=b"c", type=b"t" * 64, cause=b"other:\xc3\xa9.x", text=b"",
+    1: made_alarm(0x00, 3, 0, 6, [b"a"], 0, cleared=7, id=b"", type=b"t", cause=b"sbi-overload", text=b"y" * 121, details=b""),
+    4: made_alarm(0xFF, 1, 1, 1, [b"amf", b""], 0x00010203, cleared=0, id=b"c", type=b"t" * 64, cause=b"other:\xc3\xa9.x", text=b"z" * 256,
                   region=b"r" * 128),
     3: made_event(1, 0, 0, b"a", id=b"a", type=b"link", cause=b"lease-lost", principal=b"op", tenant=b"t", reason=b"why", correlation=b"c-1"),
 }, successes=2 ** 64 - 1, failures=3)
