@@ -29,25 +29,17 @@ add-rows c =
     let p = passed-on _ (l .rows) (l .i) (l .inv) _ _ (a .ahead .ensures .0) (a .ahead .ensures .1) (c .before .if1 .left) in
     omega (arith, p .inside, p .fewer)
 
-add-i : tie.Need-add-i Inv-loop μ-loop
-add-i c =
-    let a = c .before .before .before .before in
-    let l = a .before .before .before .loop in
-    let p = passed-on _ (l .rows) (l .i) (l .inv) _ _ (a .ahead .ensures .0) (a .ahead .ensures .1) (c .before .before .if1 .left) in
-    omega (arith, p .inside)
-
-loop-less : tie.Need-loop-less Inv-loop μ-loop
-loop-less c =
-    let a = c .before .before .before .before in
-    let l = a .before .before .before .loop in
-    let p = passed-on _ (l .rows) (l .i) (l .inv) _ _ (a .ahead .ensures .0) (a .ahead .ensures .1) (c .before .before .if1 .left) in
-    omega (arith, p .inside)
-
 loop-again : tie.Need-loop-again Inv-loop μ-loop
 loop-again c =
     let a = c .before .before .before .before in
     let l = a .before .before .before .loop in
     passed-on _ (l .rows) (l .i) (l .inv) _ _ (a .ahead .ensures .0) (a .ahead .ensures .1) (c .before .before .if1 .left)
+
+add-i : tie.Need-add-i Inv-loop μ-loop
+add-i c = omega (arith, loop-again c .inside)
+
+loop-less : tie.Need-loop-less Inv-loop μ-loop
+loop-less c = omega (arith, loop-again c .inside)
 
 returns-2 : tie.Need-returns-2 Inv-loop μ-loop
 returns-2 c =
