@@ -1,3 +1,4 @@
 pub mod Meaning
 pub mod FormLaws
+pub mod LeadLaws
 pub mod PlainLaws

@@ -1,6 +1,6 @@
--- What the contracts say: the answer's number of code points, strings of ASCII and of tails, a row behind its first byte, and how far a run
--- goes on at once.
-use Prim.Native.Nat.{ℕ, _-_}
+-- What the contracts say: the answer's number of code points, strings of ASCII and of tails, a row behind its first byte, how far a run goes
+-- on at once, and how many bytes are no tails.
+use Prim.Native.Nat.{ℕ, _+_, _-_}
 use mathlib.Core.List.{[], _∷_}
 use mathlib.Core.Bool.{Bool, true, cond, _&&_}
 use mathlib.Core.Option.{Option, none, some}
@@ -38,10 +38,15 @@ secondThenTails n r = r ∷ replicate (n - 2) tail
 unfoldable pub rowWidth : ℕ → Range → Bytes → ℕ
 rowWidth n r s = cond (fits (secondThenTails n r) (drop 1 s)) n 0
 
--- whole characters at the front of s, their bytes: eight of ASCII, else those of the first character, 0 where it begins with none
-unfoldable pub bytesAhead : Bytes → ℕ
-bytesAhead s = cond (startsPlain s) 8 (character s)
+-- how many bytes at the front of s are whole characters: eight of ASCII, else those of the first character, 0 where it begins with none
+unfoldable pub ahead : Bytes → ℕ
+ahead s = cond (startsPlain s) 8 (character s)
 
--- and how many they are
-unfoldable pub rowsAhead : Bytes → ℕ
-rowsAhead s = cond (startsPlain s) 8 1
+-- 1 for a byte that is no tail
+abbrev pub leadIn : ℕ → ℕ
+leadIn b = cond (inside tail b) 0 1
+
+-- how many bytes of s are no tails
+unfoldable pub leadsIn : Bytes → ℕ
+leadsIn [] = 0
+leadsIn (b ∷ s) = leadIn b + leadsIn s

@@ -6,8 +6,8 @@
 // at once by `check`, and between other letters ASCII is passed eight bytes at a time.
 ghost use mathlib.Core.Path.{_≡_};
 ghost use Prim.Native.Nat.{_≤_};
-ghost use Rattle.definition.specs.Utf8.{_–_, tail, character as theCharacter, codePoints, isRun, atMost};
-ghost use Rattle.utf8.specs.Meaning.{plain, startsPlain, allInside, rowWidth, bytesAhead, rowsAhead, counted};
+ghost use Rattle.definition.specs.Utf8.{_–_, tail, character as theCharacter, codePoints, isRun, utf8, atMost};
+ghost use Rattle.utf8.specs.Meaning.{plain, startsPlain, allInside, rowWidth, ahead as theAhead, leadIn, leadsIn, counted};
 
 // What the check answers: well formed, with the number of code points; or not.
 pub enum Form {
@@ -127,40 +127,66 @@ fn starts_plain(s: &[u8]) -> bool
     is_ascii(&s[..8])
 }
 
-// Whole characters at the front of a string: their bytes, 0 where it begins with none, and how many they are.
-struct Front {
-    bytes: usize,
-    rows: usize,
-}
-
-// Eight characters where these are ASCII, else the first one.
-fn ahead(s: &[u8]) -> Front
-    ensures { λ r. ⌜ (r .bytes ≡ bytesAhead (now (s .entry))) × (r .rows ≡ rowsAhead (now (s .entry))) ⌝ }
+// How many bytes at the front of s are whole characters: eight where these are ASCII, else those of the first
+// character; 0 where s begins with none.
+fn ahead(s: &[u8]) -> usize
+    ensures { λ r. ⌜ r ≡ theAhead (now (s .entry)) ⌝ }
 {
     if starts_plain(s) {
-        return Front { bytes: 8, rows: 8 };
+        return 8;
     }
-    Front {
-        bytes: character(s),
-        rows: 1,
-    }
+    character(s)
 }
 
-// The form of s: whether it is a run of characters, UTF8-octets = *( UTF8-char ), and of how many.
+// Whether s is a run of characters, UTF8-octets = *( UTF8-char ).
+fn is_run(s: &[u8]) -> bool
+    ensures { λ r. ⌜ r ≡ utf8 (now (s .entry)) ⌝ }
+{
+    let mut i = 0;
+    while i < s.len() {
+        let n = ahead(&s[i..]);
+        if n == 0 {
+            return false;
+        }
+        i += n;
+    }
+    true
+}
+
+// 1 for a byte that is no tail, with which a character begins; else 0.
+fn lead(b: u8) -> usize
+    ensures { λ r. ⌜ r ≡ leadIn b ⌝ }
+{
+    if b < 0x80 {
+        return 1;
+    }
+    if 0xBF < b {
+        return 1;
+    }
+    0
+}
+
+// How many bytes of s are no tails: in a run each character has one of them, its first.
+fn leads(s: &[u8]) -> usize
+    ensures { λ r. ⌜ r ≡ leadsIn (now (s .entry)) ⌝ }
+{
+    let mut n = 0;
+    let mut i = 0;
+    while i < s.len() {
+        n += lead(s[i]);
+        i += 1;
+    }
+    n
+}
+
+// The form of s. Code points are counted by a loop of their own, which LLVM leaves out where nobody asks for their number.
 pub fn check_run(s: &[u8]) -> Form
     ensures { λ r. ⌜ counted r ≡ codePoints (now (s .entry)) ⌝ }
 {
-    let mut rows = 0;
-    let mut i = 0;
-    while i < s.len() {
-        let next = ahead(&s[i..]);
-        if next.bytes == 0 {
-            return Form::IllFormed;
-        }
-        rows += next.rows;
-        i += next.bytes;
+    if is_run(s) {
+        return Form::WellFormed(leads(s));
     }
-    Form::WellFormed(rows)
+    Form::IllFormed
 }
 
 // The same, quicker than `check_run` where s may well be ASCII.

@@ -1,9 +1,9 @@
 -- UTF-8: a character by its first byte, and strings put together. For causes, and for `utf8`.
 use mathlib.Core.Path.{_≡_, refl, sym, ap, _∙_, subst}
 use mathlib.Core.Bool.{Bool, true, false, cond, _&&_}
-use mathlib.Core.Option.{Option, none, some, Option·some-ne-none}
+use mathlib.Core.Option.{Option, none, some}
 use mathlib.Core.List.{List, [], _∷_, _++_, append-assoc}
-use Prim.Native.Nat.{ℕ, zero, suc, _+_, _≤_, _<_}
+use Prim.Native.Nat.{ℕ, zero, suc, _≤_, _<_}
 use native.Mathlib.Decide.{decLt}
 use native.Mathlib.Omega.{arith}
 use borrow.Author.Tests.{lt-leb, ltb-true}
@@ -138,79 +138,34 @@ pub rows-stuck : (b : ℕ) (s : Bytes) → character (b ∷ s) ≡ 0 → rowsFro
 unfolding rowsFrom
 rows-stuck b s e = rw e
 
--- k rows more
-abbrev pub moreRows : ℕ → Option ℕ → Option ℕ
-moreRows k none = none
-moreRows k (some n) = some (k + n)
-
-pub no-more : (o : Option ℕ) → o ≡ moreRows 0 o
-no-more none = refl
-no-more (some n) = ap some (omega arith)
-
-pub one-more : (o : Option ℕ) → oneMore o ≡ moreRows 1 o
-one-more none = refl
-one-more (some n) = ap some (omega arith)
-
-pub more-more : (j k : ℕ) (o : Option ℕ) → moreRows j (moreRows k o) ≡ moreRows (j + k) o
-more-more j k none = refl
-more-more j k (some n) = ap some (omega arith)
-
-run-more : (k : ℕ) (o : Option ℕ) → isRun (moreRows k o) ≡ isRun o
-run-more k none = refl
-run-more k (some n) = refl
+run-more : (o : Option ℕ) → isRun (oneMore o) ≡ isRun o
+run-more none = refl
+run-more (some n) = refl
 
 -- whether s is UTF-8 is decided behind its first character, or at once where it begins with none
 pub utf8-next : (b : ℕ) (s : Bytes) (n : ℕ) → character (b ∷ s) ≡ suc n → utf8 (b ∷ s) ≡ utf8 (drop n s)
 unfolding utf8
-utf8-next b s n e = let o = rowsFrom 0 (drop n s) in ap isRun (rows-next b s n e ∙ one-more o) ∙ run-more 1 o
+utf8-next b s n e = ap isRun (rows-next b s n e) ∙ run-more (rowsFrom 0 (drop n s))
 
 pub utf8-stuck : (b : ℕ) (s : Bytes) → character (b ∷ s) ≡ 0 → utf8 (b ∷ s) ≡ false
 unfolding utf8
 utf8-stuck b s e = ap isRun (rows-stuck b s e)
 
 -- the first character of b and s stays one where other bytes stand behind it
-rows-front : (b : ℕ) (s x : Bytes) (rs : Row) → rests rows b ≡ rs ∷ [] → T (fits rs s) → rowsFrom 0 (b ∷ (take (length rs) s ++ x)) ≡ moreRows 1 (rowsFrom 0 x)
-unfolding widthBehind
-rows-front b s x rs e f =
-    rows-next b (take (length rs) s ++ x) (length rs) (by-first b (take (length rs) s ++ x) ∙ rw (e, fits-own rs s x f))
-    ∙ one-more (rowsFrom 0 (drop (length rs) (take (length rs) s ++ x)))
-    ∙ ap (λ (y : Bytes). moreRows 1 (rowsFrom 0 y)) (drop-at (take (length rs) s) x (length rs) (length-take-le (length rs) s (fits-le rs s f)))
-
 pub utf8-front : (b : ℕ) (s x : Bytes) (rs : Row) → rests rows b ≡ rs ∷ [] → T (fits rs s) → utf8 (b ∷ (take (length rs) s ++ x)) ≡ utf8 x
-unfolding utf8
-utf8-front b s x rs e f = ap isRun (rows-front b s x rs e f) ∙ run-more 1 (rowsFrom 0 x)
-
--- the rows of a run, and of what is put behind it
-pub rows-append : (t s : Bytes) (k : ℕ) → rowsFrom 0 s ≡ some k → rowsFrom 0 (s ++ t) ≡ moreRows k (rowsFrom 0 t)
-unfolding rowsFrom
-rows-append t = by-suffix Joins empty (λ b s ih k e. go b s ih k e (front b s))
-  where
-    Joins : Bytes → Type 0
-    Joins s = (k : ℕ) → rowsFrom 0 s ≡ some k → rowsFrom 0 (s ++ t) ≡ moreRows k (rowsFrom 0 t)
-
-    empty : Joins []
-    empty k e = let z : 0 ≡ k = cc in no-more (rowsFrom 0 t) ∙ ap (λ (n : ℕ). moreRows n (rowsFrom 0 t)) z
-
-    go : (b : ℕ) (s : Bytes) → ((n : ℕ) → Joins (drop n s)) → (k : ℕ) → rowsFrom 0 (b ∷ s) ≡ some k → Front b s → rowsFrom 0 (b ∷ (s ++ t)) ≡ moreRows k (rowsFrom 0 t)
-    go b s ih k e (stuck c) = absurd (Option·some-ne-none k (sym e ∙ rows-stuck b s c))
-    go b s ih k e (starts rs a r f c) = on (rowsFrom 0 (drop (length rs) s)) refl (sym (rows-next b s (length rs) c) ∙ e)
-      where
-        on : (o : Option ℕ) → rowsFrom 0 (drop (length rs) s) ≡ o → oneMore o ≡ some k → rowsFrom 0 (b ∷ (s ++ t)) ≡ moreRows k (rowsFrom 0 t)
-        on none q p = absurd (Option·some-ne-none k (sym p))
-        on (some m) q p =
-            let n = length rs in
-            let z : suc m ≡ k = cc in
-            ap (λ (y : Bytes). rowsFrom 0 (b ∷ (y ++ t))) (sym (take-append-drop n s))
-            ∙ ap (λ (y : Bytes). rowsFrom 0 (b ∷ y)) (append-assoc (take n s) (drop n s) t)
-            ∙ rows-front b s (drop n s ++ t) rs r f
-            ∙ ap (moreRows 1) (ih n m q)
-            ∙ more-more 1 m (rowsFrom 0 t)
-            ∙ ap (λ (j : ℕ). moreRows j (rowsFrom 0 t)) (omega (arith, z))
+unfolding widthBehind
+utf8-front b s x rs e f =
+    utf8-next b (take (length rs) s ++ x) (length rs) (by-first b (take (length rs) s ++ x) ∙ rw (e, fits-own rs s x f))
+    ∙ ap utf8 (drop-at (take (length rs) s) x (length rs) (length-take-le (length rs) s (fits-le rs s f)))
 
 pub utf8-append : (s t : Bytes) → utf8 s ≡ true → utf8 (s ++ t) ≡ utf8 t
-unfolding utf8
-utf8-append s t e = go (rowsFrom 0 s) refl e
+utf8-append s t = by-suffix (λ s. utf8 s ≡ true → utf8 (s ++ t) ≡ utf8 t) (λ e. refl) (λ b s ih e. go b s ih e (front b s)) s
   where
-    go : (o : Option ℕ) → rowsFrom 0 s ≡ o → isRun o ≡ true → isRun (rowsFrom 0 (s ++ t)) ≡ isRun (rowsFrom 0 t)
-    go none q h = absurd (true-holds false h)
-    go (some k) q h = ap isRun (rows-append t s k q) ∙ run-more k (rowsFrom 0 t)
+    go : (b : ℕ) (s : Bytes) → ((n : ℕ) → utf8 (drop n s) ≡ true → utf8 (drop n s ++ t) ≡ utf8 t) → utf8 (b ∷ s) ≡ true → Front b s → utf8 (b ∷ (s ++ t)) ≡ utf8 t
+    go b s ih e (stuck c) = absurd (true-holds false (sym (utf8-stuck b s c) ∙ e))
+    go b s ih e (starts rs a r f c) =
+        let k = length rs in
+        ap (λ (y : Bytes). utf8 (b ∷ (y ++ t))) (sym (take-append-drop k s))
+        ∙ ap (λ (y : Bytes). utf8 (b ∷ y)) (append-assoc (take k s) (drop k s) t)
+        ∙ utf8-front b s (drop k s ++ t) rs r f
+        ∙ ih k (sym (utf8-next b s k c) ∙ e)
