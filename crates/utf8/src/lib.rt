@@ -179,22 +179,31 @@ fn leads(s: &[u8]) -> usize
     n
 }
 
-// The form of s. Code points are counted by a loop of their own, which LLVM leaves out where nobody asks for their number.
-pub fn check_run(s: &[u8]) -> Form
+// The form of s, told whether it is a run. Code points are counted by a loop of their own, and not in that of `is_run`: LLVM leaves it out
+// where nobody asks for their number.
+fn form_of(s: &[u8], run: bool) -> Form
+    requires { ⌜ run ≡ utf8 (now s) ⌝ }
     ensures { λ r. ⌜ counted r ≡ codePoints (now (s .entry)) ⌝ }
 {
-    if is_run(s) {
+    if run {
         return Form::WellFormed(leads(s));
     }
     Form::IllFormed
 }
 
-// The same, quicker than `check_run` where s may well be ASCII.
+// The form of s, by its characters alone.
+pub fn check_run(s: &[u8]) -> Form
+    ensures { λ r. ⌜ counted r ≡ codePoints (now (s .entry)) ⌝ }
+{
+    form_of(s, is_run(s))
+}
+
+// The form of s, quicker than `check_run` where s may well be ASCII.
 pub fn check(s: &[u8]) -> Form
     ensures { λ r. ⌜ counted r ≡ codePoints (now (s .entry)) ⌝ }
 {
     if is_ascii(s) {
         return Form::WellFormed(s.len());
     }
-    check_run(s)
+    form_of(s, is_run(s))
 }

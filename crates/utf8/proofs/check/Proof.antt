@@ -10,4 +10,4 @@ returns : tie.Need-returns
 returns c = sym (plain-rows _ (true-holds _ (sym (c .before .is-ascii .ensures) ∙ c .if1 .taken)))
 
 pub check-spec : {M : Type 1} → statement M
-check-spec = tie.close (tie.spec (λ c κs. search needs) returns (λ c κs. search needs) (λ c. search needs))
+check-spec = tie.close (tie.spec (λ c κs. search needs) returns (λ c κs. search needs) (λ c κs. search needs) (λ c. search needs))
