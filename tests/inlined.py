@@ -1,7 +1,8 @@
 #!/usr/bin/env python3
-"""The compiled library: the quick test of a string is part of the check of a record, and what decides where it fails is called.
+"""The compiled library: the quick test of a string is part of the check of a record, and what decides where it fails is called. And the loop that
+decides on UTF-8 stands by itself, so that code points are counted only where their number is asked for.
 
-LLVM inlines by size, and nothing in Rattle tells it what to inline; docs/DECISIONS.md, 4.16, says what hangs on it.
+LLVM inlines by size, and nothing in Rattle tells it what to inline; docs/DECISIONS.md, 4.16 and 2.7, says what hangs on it.
 """
 import re
 import sys
@@ -12,6 +13,9 @@ from header import LIBRARY
 QUICK = {"record_check::string_at", "record_check::option_at", "record_check::is_plain_at", "record_check::ruler::is_plain",
          "record_check::ruler::is_clear"}
 OTHERWISE = "record_check::any_string_at"
+# What answers the number of code points: in a caller that drops the number LLVM leaves the counting out, where these stand in the caller.
+COUNTING = {"utf8::check", "utf8::check_run", "utf8::form_of"}
+DECIDING = "utf8::is_run"
 
 
 def functions(root):
@@ -29,7 +33,15 @@ def quick(root):
     yield from (f"{name} is called, and not inlined" for name in sorted(found & QUICK))
 
 
-CHECKS = {"the quick test of strings is inlined": quick}
+def uncounted(root):
+    """The functions that answer a number of code points stand in their callers, and the loop that says yes or no by itself."""
+    found = functions(root)
+    if DECIDING not in found:
+        yield f"{DECIDING} is inlined into what counts, or {LIBRARY} does not show its functions"
+    yield from (f"{name} is called, and counts for callers that ask for yes or no" for name in sorted(found & COUNTING))
+
+
+CHECKS = {"the quick test of strings is inlined": quick, "nothing is counted where yes or no is asked": uncounted}
 
 if __name__ == "__main__":
     sys.exit(run("inlined", CHECKS))
