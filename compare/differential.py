@@ -126,7 +126,8 @@ class Rust:
 
     def step_difference(self, call, outcome, found):
         if not found.startswith("{"):
-            return None if found == f"refused {outcome.number}" else f"the Rust: {found}; here: number {outcome.number}"
+            alike = found == f"refused {outcome.number}" or (found, outcome.number) == ("refused 30", 0) and self.original.room_is_chance(call)
+            return None if alike else f"the Rust: {found}; here: number {outcome.number}"
         said = json.loads(found)
         active = said["state"]["active"]
         self.severities = [alarm["severity"] for alarm in active]

@@ -111,7 +111,7 @@ class Original:
     """The Rust on one list of calls."""
 
     def __init__(self):
-        self.active, self.expired = [], []
+        self.active, self.expired, self.is_cut = [], [], False
         self.seen, self.shown = None, None
 
     def state_shown(self, register):
@@ -131,9 +131,9 @@ class Original:
     def difference(self, call, refusal, answer, register, theirs):
         """What differs after a call that the Rust answers, as text; None where nothing does."""
         state = theirs.pop("state")
-        cut = self.cut(call, state)
+        cut = self.is_cut = self.cut(call, state)
         if refusal:
-            return None if refusal == 30 and call[0] == 9 and cut else f"the Rust answers {theirs}; here: number {refusal}"
+            return None if refusal == 30 and self.room_is_chance(call) else f"the Rust answers {theirs}; here: number {refusal}"
         try:
             ours, held = answer_shown(call[0], answer), self.state_shown(register)
         except Unsound:
@@ -174,6 +174,10 @@ class Original:
         held = [group for group in runs(state["history"]) if group[0]["state"] == EXPIRED]
         del self.expired[:len(self.expired) - len(held)]
         return bool(held) and len(held[0]) < len(self.expired[0])
+
+    def room_is_chance(self, call):
+        """Whether a list of history may have room on one side alone: of a run that is cut other alarms are left, and not as many match."""
+        return call[0] == 9 and self.is_cut
 
     def histories_differ(self, ours, theirs, cut, whole):
         """`whole`: all of history, so that a run that is cut has one length on both sides."""

@@ -23,8 +23,9 @@ import wrong_characters
 import wrong_raises
 from calls import call
 from checklist import run
-from differential import Case, Tools, checked, fault_of, modelled, report, shrunk
+from differential import Case, Outcome, Rust, Tools, checked, fault_of, modelled, report, shrunk
 from orders import Step
+from original import Original
 from records import LAYOUT, unlinked
 from twins import differ, masked_register
 
@@ -71,6 +72,17 @@ def ended(_root):
         yield "an oracle that writes nothing passes"
 
 
+def rooms(_root):
+    """A list of history that has room here and none in the Rust is no fault where the limit cut a run that expired together, and else is one."""
+    for op, is_cut in ((9, True), (9, False), (8, True)):
+        rust = Rust(shutil.which("true"), [], collections.Counter())
+        rust.original = Original()
+        rust.original.is_cut = is_cut
+        found = rust.step_difference(bytes([op]), Outcome(0, 16, bytearray(16), bytearray()), "refused 30")
+        if (found is None) != (op == 9 and is_cut):
+            yield f"operation {op}, a run {'cut' if is_cut else 'whole'}: {found}"
+
+
 def twins(_root):
     orders = some_list()
     good = list(generate.twin(random.Random(1), orders))
@@ -105,6 +117,7 @@ CHECKS = {
     **{f"wrong texts are noticed: {name}": noticed(name, test_characters_met.some_list) for name in wrong_characters.WRONG},
     **{f"wrong texts are noticed: {name}": noticed(name, test_characters_met.given_list) for name in wrong_characters.WRONG_ON_GIVEN},
     "programs that end": ended,
+    "room that hangs on chance": rooms,
     "twins": twins,
     "the mask": mask,
     **test_balance.CHECKS,
