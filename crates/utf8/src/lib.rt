@@ -153,7 +153,7 @@ fn is_run(s: &[u8]) -> bool
     true
 }
 
-// 1 for a byte that is no tail, with which a character begins; else 0.
+// 1 for a byte that is no tail, else 0.
 fn lead(b: u8) -> usize
     ensures { λ r. ⌜ r ≡ leadIn b ⌝ }
 {

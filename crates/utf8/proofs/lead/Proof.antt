@@ -1,5 +1,4 @@
 -- Below the tails, above them, or one of them.
-use mathlib.Core.Path.{sym}
 use borrow.Author.Needs.{needs}
 use Rattle.definition.specs.Utf8.{tail}
 use Rattle.utf8.proofs.Rows.{inside-low, inside-high, inside-range}
