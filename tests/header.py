@@ -108,8 +108,8 @@ def numbers(root):
     of the checks, and none has a removed one."""
     rows, lists = numbering.given(root), numbering.defined(root)
     for entry, name in numbering.ENTRIES.items():
-        page, found = [row.number for row in rows if entry in row.entries], lists.pop(name, [])
-        if page != [0, *sorted(found)]:
+        page, found = [row.number for row in numbering.checked(rows) if entry in row.entries], lists.pop(name, [])
+        if page != [0, *found]:
             yield f"{entry} returns {page} by {numbering.PAGE}, and {name} of {numbering.DEFINITION} is {found}"
     yield from (f"{numbering.DEFINITION}: {name} is the list of no entry point" for name in lists if name not in numbering.PARTS)
     for where, found in ((numbering.PAGE, {entry for row in rows for entry in row.entries}), (HEADER, set(numbering.functions(root)))):

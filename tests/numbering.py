@@ -13,8 +13,9 @@ REMOVED = ["No.", "From", "Was given if", "Removed by", "Why"]
 
 
 class Row(NamedTuple):
-    """A number, the entry points that return it, and its name in the header; 0 has no name."""
+    """A number, where it is checked, the entry points that return it, and its name in the header; 0 has no name."""
     number: int
+    place: str
     entries: list
     name: str
 
@@ -34,7 +35,13 @@ def cells(root, columns):
 
 def given(root):
     """The page's numbers, in its order."""
-    return [Row(int(number), entries.replace("`", "").split(", "), name) for number, _, _, entries, _, name in cells(root, GIVEN)]
+    return [Row(int(number), place, entries.replace("`", "").split(", "), name) for number, place, _, entries, _, name in cells(root, GIVEN)]
+
+
+def checked(rows):
+    """The numbers in the order of the checks: that of the places as the page first names them, and then the page's."""
+    places = list(dict.fromkeys(row.place for row in rows))
+    return sorted(rows, key=lambda row: places.index(row.place))
 
 
 def removed(root):
