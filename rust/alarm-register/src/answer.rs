@@ -1,4 +1,4 @@
-//! Answers: what a register says to operations 1 to 6, and the head of every answer.
+//! Answers: what a register says to operations 1 to 6 and 13, and the head of every answer.
 use crate::bytes::Fields;
 use crate::layout::RECORD_WIDTH;
 use crate::record::{Alarm, Key};
@@ -6,7 +6,7 @@ use crate::record::{Alarm, Key};
 /// The head of an answer.
 #[derive(Clone, Copy, Debug, PartialEq, Eq)]
 pub struct Head {
-    /// Which answer: 1 to 10 as [`code_name`] names them, 11 for operations 7 to 12.
+    /// Which answer: 1 to 10 as [`code_name`] names them, 11 for operations 7 to 12 and 14.
     pub code: u8,
     /// How many items follow.
     pub count: u32,
@@ -22,7 +22,7 @@ impl Head {
         Some((Head { code, count: fields.u32()?, number: fields.u64()? }, fields.0))
     }
 
-    /// The head of an answer to operations 7 to 12, and what follows it.
+    /// The head of an answer to operations 7 to 12 and 14, and what follows it.
     pub(crate) fn report(answer: &[u8]) -> Option<(Head, &[u8])> {
         Head::read(answer).filter(|(head, _)| head.code == 11)
     }

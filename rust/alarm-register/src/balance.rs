@@ -8,8 +8,8 @@ use crate::answer::Head;
 /// (theorem `balance`, crates/station/specs/Theorem.antt); this type, which counts, is plain Rust.
 ///
 /// Counted are answers Raised and Cleared, and the numbers of the answers to expire calls. Not counted are refused calls, raises
-/// that update an active alarm or exceed the limit, clears without an active alarm, and the number of a summary (operation 11),
-/// which is no event but the active length itself.
+/// that update an active alarm or exceed the limit, clears without an active alarm, the number of a summary (operation 11), which
+/// is no event but the active length itself, and that of a lift (operation 14), whose alarms were active and stay so.
 ///
 /// ```
 /// use alarm_register::{Balance, Expire, Limits, Object, Operation, Raise, Register, Severity, Time, ANSWER_ROOM};

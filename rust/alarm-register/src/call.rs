@@ -1,21 +1,10 @@
-//! The twelve operations, each as a value that is built up and written as a call.
+//! Operations 1 to 4, each as a value that is built up and written as a call.
 use crate::bytes::{CallBytes, Fields};
 use crate::layout::longest;
-use crate::object::{Object, Scope};
+use crate::object::Object;
+use crate::setters::setters;
 use crate::time::Time;
 use crate::values::{Action, Severity};
-
-/// Methods that give a field of a builder its value.
-macro_rules! setters {
-    ($($(#[$about:meta])* $field:ident: $kind:ty => $value:expr;)*) => {
-        $($(#[$about])*
-        #[must_use]
-        pub fn $field(mut self, $field: $kind) -> Self {
-            self.$field = $value;
-            self
-        })*
-    };
-}
 
 /// 1: raises an alarm, or updates the active one with the same key. [`check`](crate::Operation::check) tells before it is sent what
 /// a register would refuse in it.
@@ -196,94 +185,5 @@ impl<'a> PlainAction<'a> {
 
     pub(crate) fn read(action: Action, fields: &mut Fields<'a>) -> Option<Self> {
         Some(PlainAction { action, time: fields.time()?, id: fields.string(longest::ID)?, authorised: fields.flag()? })
-    }
-}
-
-/// 5 and 6: acknowledges or suppresses an alarm by its id under policy; every attempt on an active alarm leaves an audit event.
-#[derive(Clone, Copy, Debug, PartialEq, Eq)]
-pub struct PolicyAction<'a> {
-    /// Which of the two.
-    pub action: Action,
-    /// When.
-    pub time: Time,
-    /// The alarm's id.
-    pub id: &'a str,
-    /// Who acts.
-    pub principal: &'a str,
-    /// For which tenant, if any.
-    pub tenant: Option<&'a str>,
-    /// Why.
-    pub reason: &'a str,
-    /// How far the permission reaches.
-    pub scope: Scope<'a>,
-    /// What the action belongs to, if anything.
-    pub correlation: Option<&'a str>,
-    /// Whether policy lets this principal suppress critical alarms and those of the nine guarded causes.
-    pub critical_allowed: bool,
-    /// Whether the cabinet's own authoriser allows it.
-    pub authorised: bool,
-    /// What is answered where it does not.
-    pub denial: &'a str,
-}
-
-impl<'a> PolicyAction<'a> {
-    /// An acknowledgement that nothing allows yet, with the alarm itself as its scope.
-    pub fn acknowledge(time: Time, id: &'a str, principal: &'a str) -> Self {
-        let (tenant, reason, scope, correlation, denial) = (None, "", Scope::Alarm(id), None, "");
-        let (action, critical_allowed, authorised) = (Action::Acknowledge, false, false);
-        PolicyAction { action, time, id, principal, tenant, reason, scope, correlation, critical_allowed, authorised, denial }
-    }
-
-    /// A suppression that nothing allows yet, with the alarm itself as its scope.
-    pub fn suppress(time: Time, id: &'a str, principal: &'a str) -> Self {
-        PolicyAction { action: Action::Suppress, ..PolicyAction::acknowledge(time, id, principal) }
-    }
-
-    setters! {
-        /// For a tenant.
-        tenant: &'a str => Some(tenant);
-        /// For a reason.
-        reason: &'a str => reason;
-        /// Within a scope.
-        scope: Scope<'a> => scope;
-        /// As a part of something.
-        correlation: &'a str => Some(correlation);
-        /// What policy says on critical alarms.
-        critical_allowed: bool => critical_allowed;
-        /// What the authoriser said.
-        authorised: bool => authorised;
-        /// What is answered where the authoriser said no.
-        denial: &'a str => denial;
-    }
-
-    pub(crate) fn write(&self) -> CallBytes {
-        let mut call = CallBytes::new(5 + self.action.byte());
-        call.time(self.time);
-        call.string(self.id.as_bytes(), longest::ID);
-        call.string(self.principal.as_bytes(), longest::PRINCIPAL);
-        call.option(self.tenant.map(str::as_bytes), longest::TENANT);
-        call.string(self.reason.as_bytes(), longest::REASON);
-        call.scope(&self.scope);
-        call.option(self.correlation.map(str::as_bytes), longest::CORRELATION);
-        call.flag(self.critical_allowed);
-        call.flag(self.authorised);
-        call.string(self.denial.as_bytes(), longest::DENIAL);
-        call
-    }
-
-    pub(crate) fn read(action: Action, fields: &mut Fields<'a>) -> Option<Self> {
-        Some(PolicyAction {
-            action,
-            time: fields.time()?,
-            id: fields.string(longest::ID)?,
-            principal: fields.string(longest::PRINCIPAL)?,
-            tenant: fields.option(longest::TENANT)?,
-            reason: fields.string(longest::REASON)?,
-            scope: fields.scope()?,
-            correlation: fields.option(longest::CORRELATION)?,
-            critical_allowed: fields.flag()?,
-            authorised: fields.flag()?,
-            denial: fields.string(longest::DENIAL)?,
-        })
     }
 }

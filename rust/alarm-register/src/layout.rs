@@ -111,6 +111,8 @@ pub mod alarm {
     pub const DETAILS: StringSlot = slot("details", 937, longest::DETAILS);
     /// How often it was raised, a u32; any value is sound.
     pub const RAISES: usize = 1451;
+    /// When its suppression ends: the option's byte; the time is behind it. Present in state suppressed alone.
+    pub const END: usize = 1455;
     /// Text and details with their lengths and the option's byte: what twins may differ in.
     pub const TEXTS: core::ops::Range<usize> = 678..1451;
 }

@@ -1,8 +1,9 @@
 //! Operations as calls, with what each is answered by.
 use crate::answer::{ActionAnswer, ClearAnswer, Head, RaiseAnswer};
 use crate::bytes::{CallBytes, Fields};
-use crate::call::{Clear, PlainAction, PolicyAction, Raise};
+use crate::call::{Clear, PlainAction, Raise};
 use crate::layout::longest;
+use crate::policy::{PolicyAction, SuppressUntil};
 use crate::refusal::Refusal;
 use crate::register::check_call;
 use crate::report::{Alarms, AuditEvents, Counts, Summary};
@@ -47,6 +48,14 @@ pub struct TakeAudit {
     pub at_most: u16,
 }
 
+/// 14: lifts every suppression whose end has come, be it at the cutoff or before it. The alarm is then in state updated, as of the
+/// cutoff or, if that is later, of its raising; suppressions without an end stay. Answered by how many were lifted.
+#[derive(Clone, Copy, Debug, PartialEq, Eq)]
+pub struct Lift {
+    /// The cutoff.
+    pub up_to: Time,
+}
+
 mod sealed {
     pub trait Sealed {}
 }
@@ -62,7 +71,8 @@ pub trait Operation: sealed::Sealed {
     /// Whether a register would take it, as far as its own fields decide, so that a person can be told before it is sent.
     ///
     /// # Errors
-    /// 26, 28, 29 or 33: the library's own number, which is that of the first field with a fault.
+    /// 26, 28, 29 or 33: the library's own number, which is that of the first field with a fault. Where no field has one, 34 for a
+    /// [`SuppressUntil`] whose end is not later than its time.
     ///
     /// ```
     /// use alarm_register::{Object, Operation, Raise, Refusal, Severity, Time};
@@ -114,6 +124,8 @@ operation! {
     CountActive, Counts<'a>, self => CallBytes::new(10), answer => Counts::read(answer);
     Summarise, Summary, self => CallBytes::new(11), answer => Summary::read(answer);
     TakeAudit, AuditEvents<'a>, self => with(12, |call| call.raw(&self.at_most.to_be_bytes())), answer => AuditEvents::read(answer);
+    SuppressUntil<'_>, ActionAnswer<'a>, self => self.write(), answer => ActionAnswer::read(answer);
+    Lift, u64, self => with(14, |call| call.time(self.up_to)), answer => Some(Head::report(answer)?.0.number);
 }
 
 fn with(operation: u8, fields: impl FnOnce(&mut CallBytes)) -> CallBytes {
@@ -127,7 +139,7 @@ fn scoped(call: &mut CallBytes, list: &ListHistory<'_>) {
     call.option(list.slice.map(str::as_bytes), longest::SLICE);
 }
 
-/// Any of the twelve operations, as read from the bytes of a call.
+/// Any of the fourteen operations, as read from the bytes of a call.
 ///
 /// ```
 /// use alarm_register::{Call, Operation, Summarise};
@@ -157,12 +169,17 @@ pub enum Call<'a> {
     Summarise(Summarise),
     /// 12: takes audit events.
     TakeAudit(TakeAudit),
+    /// 13: suppresses with policy until an end.
+    SuppressUntil(SuppressUntil<'a>),
+    /// 14: lifts suppressions whose end has come.
+    Lift(Lift),
 }
 
 impl<'a> Call<'a> {
     /// The operation that a call's bytes ask for; `None` where a field is missing or too long, or bytes are left over.
     ///
-    /// Whether a register would take the call is [`check_call`]'s to say: this judges no cause and counts no code points.
+    /// Whether a register would take the call is [`check_call`]'s to say: this judges no cause, counts no code points and
+    /// compares no times.
     pub fn read(call: &'a [u8]) -> Option<Call<'a>> {
         let mut fields = Fields(call);
         let read = match fields.byte()? {
@@ -180,6 +197,8 @@ impl<'a> Call<'a> {
             10 => Call::CountActive(CountActive),
             11 => Call::Summarise(Summarise),
             12 => Call::TakeAudit(TakeAudit { at_most: fields.u16()? }),
+            13 => Call::SuppressUntil(SuppressUntil::read(&mut fields)?),
+            14 => Call::Lift(Lift { up_to: fields.time()? }),
             _ => return None,
         };
         fields.0.is_empty().then_some(read)
@@ -198,6 +217,8 @@ impl<'a> Call<'a> {
             Call::CountActive(operation) => operation.call(),
             Call::Summarise(operation) => operation.call(),
             Call::TakeAudit(operation) => operation.call(),
+            Call::SuppressUntil(operation) => operation.call(),
+            Call::Lift(operation) => operation.call(),
         }
     }
 }

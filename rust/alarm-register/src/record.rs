@@ -95,6 +95,10 @@ pub struct Alarm<'a> {
     /// of its change: those of one alarm are not to be added up. 0 in a record from before raises were counted: they are counted
     /// from its next raise on.
     pub raises: u32,
+    /// When its suppression ends, if it was suppressed until a time ([`SuppressUntil`](crate::SuppressUntil)); in state suppressed
+    /// alone. The alarm stays suppressed behind its end until a [`Lift`](crate::Lift) comes. An entry of history has the end as of
+    /// its change.
+    pub end: Option<Time>,
 }
 
 /// An attempt to acknowledge or suppress with policy, as a record holds it.
@@ -179,8 +183,9 @@ impl<'a> Record<'a> {
         }
     }
 
-    fn cleared_at(&self) -> Option<Option<Time>> {
-        let mut fields = self.from(alarm::CLEARED_AT);
+    /// The time behind an option's byte.
+    fn time_option(&self, at: usize) -> Option<Option<Time>> {
+        let mut fields = self.from(at);
         if fields.flag()? {
             fields.time().map(Some)
         } else {
@@ -190,16 +195,16 @@ impl<'a> Record<'a> {
 }
 
 impl<'a> Alarm<'a> {
-    /// The alarm of a record of 1,536 bytes; `None` where a field is not legal.
+    /// The alarm of a record of 1,536 bytes; `None` where a field is not legal, as is an end in any state but suppressed.
     pub fn read(record: &'a [u8]) -> Option<Alarm<'a>> {
         let record = Record(record.get(..RECORD_WIDTH)?);
-        Some(Alarm {
+        let alarm = Alarm {
             key: Key(record.from(alarm::KEY).array()?),
             severity: Severity::from_byte(record.from(alarm::SEVERITY).byte()?)?,
             state: State::from_byte(record.from(alarm::STATE).byte()?)?,
             raised_at: record.from(alarm::RAISED_AT).time()?,
             updated_at: record.from(alarm::UPDATED_AT).time()?,
-            cleared_at: record.cleared_at()?,
+            cleared_at: record.time_option(alarm::CLEARED_AT)?,
             id: record.string(alarm::ID)?,
             alarm_type: record.string(alarm::TYPE)?,
             cause: record.string(alarm::CAUSE)?,
@@ -210,7 +215,9 @@ impl<'a> Alarm<'a> {
             text: record.string(alarm::TEXT)?,
             details: if record.present(alarm::DETAILS)? { Some(record.bytes(alarm::DETAILS)?) } else { None },
             raises: record.from(alarm::RAISES).u32()?,
-        })
+            end: record.time_option(alarm::END)?,
+        };
+        (alarm.end.is_none() || alarm.state == State::Suppressed).then_some(alarm)
     }
 }
 
@@ -236,9 +243,14 @@ impl<'a> AuditEvent<'a> {
 
 impl fmt::Display for Alarm<'_> {
     /// One line: `critical raised A1 drive.trip other:ropeway.drive-trip interface(drive,main) since 2026-03-14 09:12:04: text`;
-    /// where it was raised more than once, `.. since 2026-03-14 09:12:04, raised 3 times: text`.
+    /// where it was raised more than once, `.. since 2026-03-14 09:12:04, raised 3 times: text`; where its suppression has an end,
+    /// `minor suppressed until 2026-03-14 16:00:00 A2 ..`.
     fn fmt(&self, f: &mut fmt::Formatter<'_>) -> fmt::Result {
-        write!(f, "{} {} {} {} {} {}", self.severity, self.state, self.id, self.alarm_type, self.cause, self.object)?;
+        write!(f, "{} {}", self.severity, self.state)?;
+        if let Some(end) = self.end {
+            write!(f, " until {end}")?;
+        }
+        write!(f, " {} {} {} {}", self.id, self.alarm_type, self.cause, self.object)?;
         write!(f, " since {}", self.raised_at)?;
         if self.raises > 1 {
             write!(f, ", raised {} times", self.raises)?;

@@ -4,9 +4,9 @@ use core::fmt;
 /// Why opening or a call was refused. The register and the answer slice are then as they were.
 ///
 /// Each has its number and a sentence. Checks go in the order of 20 to 31, and the first fault is told; a call is read field by
-/// field, and of 23 to 29 and 33 the one that is met first is told: 33 at a raise's text, directly after 26 and 27 for it.
-/// Opening gives 20 and 21, and a call 22 to 31 or 33: that the library returns no other number is proved (docs/NUMBERS.md), so a
-/// host that handles [`Refusal::ALL`] handles all.
+/// field, and of 23 to 29 and 33 the one that is met first is told: 33 at a raise's text, directly after 26 and 27 for it. 34 comes
+/// behind all of these, bytes left over (24) among them, and before 30. Opening gives 20 and 21, and a call 22 to 31, 33 or 34: that
+/// the library returns no other number is proved (docs/NUMBERS.md), so a host that handles [`Refusal::ALL`] handles all.
 ///
 /// ```
 /// use alarm_register::Refusal;
@@ -22,7 +22,7 @@ pub enum Refusal {
     RegisterLength,
     /// 22: the bytes are not a sound register.
     Unsound,
-    /// 23: the call is empty, or its operation is not 1 to 12.
+    /// 23: the call is empty, or its operation is not 1 to 14.
     Operation,
     /// 24: the call ends early, or has bytes left over.
     CallLength,
@@ -42,13 +42,15 @@ pub enum Refusal {
     IdActive,
     /// 33: the raise's text has more than 120 code points.
     CodePoints,
+    /// 34: the suppression's end is not later than the call's time.
+    End,
     /// A number that this crate does not know: the linked library is newer.
     Unlisted(u32),
 }
 
 impl Refusal {
     /// All refusals, by rising number.
-    pub const ALL: [Refusal; 13] = [
+    pub const ALL: [Refusal; 14] = [
         Refusal::Limits,
         Refusal::RegisterLength,
         Refusal::Unsound,
@@ -62,6 +64,7 @@ impl Refusal {
         Refusal::AnswerLength,
         Refusal::IdActive,
         Refusal::CodePoints,
+        Refusal::End,
     ];
 
     /// The refusal of a number.
@@ -86,6 +89,7 @@ impl Refusal {
             Refusal::AnswerLength => 30,
             Refusal::IdActive => 31,
             Refusal::CodePoints => 33,
+            Refusal::End => 34,
             Refusal::Unlisted(number) => number,
         }
     }
@@ -98,7 +102,7 @@ impl Refusal {
                 "the register's length is not 1,536 bytes for the header and for each record of the limits"
             }
             Refusal::Unsound => "the bytes are not a sound register",
-            Refusal::Operation => "the call is empty, or its operation is not 1 to 12",
+            Refusal::Operation => "the call is empty, or its operation is not 1 to 14",
             Refusal::CallLength => "the call ends early, or has bytes left over",
             Refusal::Value => "a byte of the call is outside its values",
             Refusal::TooLong => "a string of the call is longer than its limit",
@@ -108,6 +112,7 @@ impl Refusal {
             Refusal::AnswerLength => "the slice for the answer is too short",
             Refusal::IdActive => "the raise would store an id that is active",
             Refusal::CodePoints => "the raise's text has more than 120 code points",
+            Refusal::End => "the suppression's end is not later than the call's time",
             Refusal::Unlisted(_) => "the library gave a number that this program does not know",
         }
     }

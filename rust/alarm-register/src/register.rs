@@ -112,7 +112,7 @@ impl<'a> Register<'a> {
     /// Performs an operation, with the slice as room for the answer.
     ///
     /// # Errors
-    /// One of 22 to 31, or 33; register and slice are then as they were. [`ANSWER_ROOM`](crate::ANSWER_ROOM) is enough for all
+    /// One of 22 to 31, 33 or 34; register and slice are then as they were. [`ANSWER_ROOM`](crate::ANSWER_ROOM) is enough for all
     /// operations but lists, counts and taking audit events; [`Limits::answer_room`] is enough for these.
     ///
     /// # Panics
@@ -125,7 +125,7 @@ impl<'a> Register<'a> {
     /// Performs a call given as bytes; gives the part of the slice that the answer fills.
     ///
     /// # Errors
-    /// One of 22 to 31, or 33; register and slice are then as they were.
+    /// One of 22 to 31, 33 or 34; register and slice are then as they were.
     pub fn step<'b>(&mut self, call: &[u8], answer: &'b mut [u8]) -> Result<&'b [u8], Refusal> {
         entry::step(self.bytes, call, answer)
     }
@@ -146,7 +146,7 @@ impl fmt::Debug for Register<'_> {
 /// Whether a register would take a call, as far as the call itself decides; [`Operation::check`] asks it of an operation.
 ///
 /// # Errors
-/// One of 23 to 29, or 33.
+/// One of 23 to 29, 33 or 34.
 ///
 /// ```
 /// use alarm_register::{check_call, Refusal};

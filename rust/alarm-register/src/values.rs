@@ -64,11 +64,11 @@ named_bytes! {
     State {
         /// New.
         Raised = 0, "raised";
-        /// Raised again while active.
+        /// Raised again while active, or lifted when the end of its suppression had come.
         Updated = 1, "updated";
         /// Taken note of by a person.
         Acknowledged = 2, "acknowledged";
-        /// Put aside by a person; a summary's worst severity and readiness leave it aside too.
+        /// Put aside by a person, with an end or without; a summary's worst severity and readiness leave it aside too.
         Suppressed = 3, "suppressed";
         /// Ended by a clear.
         Cleared = 4, "cleared";

@@ -1,7 +1,7 @@
 //! The balance after every call of a list, on a register with room for 2 active alarms, 3 entries of history and 1 event.
 use alarm_register::{
-    Balance, Clear, Expire, Limits, Object, Operation, PlainAction, PolicyAction, Raise, Refusal, Register, Severity, Summarise,
-    Time, ANSWER_ROOM,
+    Balance, Clear, Expire, Lift, Limits, Object, Operation, PlainAction, Raise, Refusal, Register, Severity, Summarise,
+    SuppressUntil, Time, ANSWER_ROOM,
 };
 
 const LIMITS: Limits = Limits { active: 2, history: 3, audit: 1 };
@@ -37,7 +37,7 @@ fn performed(register: &mut Register<'_>, balance: &mut Balance, call: &[u8], ro
 
 #[test]
 fn the_four_figures_after_every_call() {
-    let suppress = PolicyAction::suppress(Time(13), "d", "leader").authorised(true);
+    let suppress = SuppressUntil::new(Time(13), Time(15), "d", "leader").authorised(true);
     // what is done, its code or its refusal, and then: raised, active length, cleared, expired
     let list = [
         ("a raise", raise(10, "a", "a"), Ok(1), [1, 1, 0, 0]),
@@ -53,6 +53,7 @@ fn the_four_figures_after_every_call() {
         ("an expiry that takes one", expire(13), Ok(11), [2, 0, 1, 1]),
         ("raised anew", raise(20, "d", "b"), Ok(1), [3, 1, 1, 1]),
         ("an action with policy", bytes(&suppress), Ok(6), [3, 1, 1, 1]),
+        ("a lift that takes one", bytes(&Lift { up_to: Time(15) }), Ok(11), [3, 1, 1, 1]),
         ("an action that is denied", bytes(&PlainAction::acknowledge(Time(14), "d")), Ok(8), [3, 1, 1, 1]),
         ("a second active one", raise(21, "e", "e"), Ok(1), [4, 2, 1, 1]),
         ("an expiry that takes two", expire(99), Ok(11), [4, 0, 1, 3]),
@@ -125,6 +126,7 @@ fn no_sum_wraps() {
 fn numbers_of_other_operations_and_bytes_that_are_no_answer_count_nothing() {
     let mut balance = Balance::default();
     balance.add(&bytes(&Summarise), &answer(11, 5));
+    balance.add(&bytes(&Lift { up_to: Time(0) }), &answer(11, 5));
     balance.add(&raise(0, "a", "a"), &answer(5, 2));
     balance.add(&expire(0), &answer(11, 5)[..15]);
     balance.add(&raise(0, "a", "a"), &[1]);

@@ -1,9 +1,9 @@
 //! Every field on its way into the register and back, at its limits; and bytes of any kind.
 use alarm_register::layout::longest;
 use alarm_register::{
-    check_call, Action, ActionAnswer, Alarm, AuditEvent, Call, Clear, Expire, Limits, ListActive, ListHistory, Object, Operation,
-    PlainAction, PolicyAction, Raise, RaiseAnswer, Refusal, Register, Scope, Severity, Summarise, TakeAudit, Time, ANSWER_ROOM,
-    CALL_ROOM, RECORD_WIDTH,
+    check_call, Action, ActionAnswer, Alarm, AuditEvent, Call, Clear, Expire, Lift, Limits, ListActive, ListHistory, Object,
+    Operation, PlainAction, PolicyAction, Raise, RaiseAnswer, Refusal, Register, Scope, Severity, Summarise, SuppressUntil,
+    TakeAudit, Time, ANSWER_ROOM, CALL_ROOM, RECORD_WIDTH,
 };
 
 const LIMITS: Limits = Limits { active: 1, history: 1, audit: 1 };
@@ -33,7 +33,7 @@ fn stored_as_sent(raise: &Raise<'_>) {
         (raise.id, raise.alarm_type, raise.severity, raise.cause)
     );
     assert_eq!((alarm.object, alarm.tenant, alarm.slice, alarm.region), (raise.object, raise.tenant, raise.slice, raise.region));
-    assert_eq!((alarm.text, alarm.details, alarm.raises), (raise.text, raise.details, 1));
+    assert_eq!((alarm.text, alarm.details, alarm.raises, alarm.end), (raise.text, raise.details, 1, None));
     assert_eq!(Call::read(raise.call().as_bytes()), Some(Call::Raise(*raise)));
 }
 
@@ -110,6 +110,8 @@ fn strings_above_their_limits_are_refused_with_26() {
         PolicyAction::suppress(Time(0), "a", "p").reason(&long).call(),
         PolicyAction::suppress(Time(0), "a", "p").scope(Scope::Tenant(&long)).call(),
         PolicyAction::suppress(Time(0), "a", "p").denial(&long).call(),
+        SuppressUntil::new(Time(0), Time(0), "a", &long).call(),
+        SuppressUntil::new(Time(0), Time(0), "a", "p").denial(&long).call(),
         ListHistory { tenant: Some(&long), slice: None }.call(),
     ];
     for call in calls {
@@ -133,6 +135,7 @@ fn refusals_of_opening_and_of_short_answers() {
     assert!(register.is_sound());
     assert_eq!(register.perform(&Summarise, &mut [0; ANSWER_ROOM - 1]), Err(Refusal::AnswerLength));
     assert_eq!(register.perform(&Expire { before: Time(0) }, &mut []), Err(Refusal::AnswerLength));
+    assert_eq!(register.perform(&Lift { up_to: Time(0) }, &mut [0; ANSWER_ROOM - 1]), Err(Refusal::AnswerLength));
     assert_eq!(register.step(&[], &mut []), Err(Refusal::Operation));
     assert_eq!(register.perform(&ListActive { severity: None }, &mut [0; 16]).map(|list| list.len()), Ok(0));
 }
