@@ -1,6 +1,6 @@
 /*
- * The station alarm register: its two functions, the numbers that calls, answers and registers are made of, and a reader
- * of an alarm's raises.
+ * The station alarm register: its two functions, the numbers that calls, answers and registers are made of, and readers
+ * of an alarm's raises and of the end of its suppression.
  *
  * Everything is bytes that the caller lends. A register is 1,536 bytes for each record; a call goes in as bytes, an
  * answer comes out as bytes. Numbers in them are unsigned and big-endian; a time is a signed count of nanoseconds from
@@ -38,15 +38,15 @@ uint32_t alarm_open(uint8_t *reg, size_t reg_len, uint32_t active, uint32_t hist
 /*
  * Performs one call on a register, and writes the answer to answer[0..*length]. The bytes behind it stay as they were.
  *
- * Returns 0, or one of ALARM_REFUSED_UNSOUND to ALARM_REFUSED_CODE_POINTS (22 to 31, and 33), and no other number; on a
+ * Returns 0, or one of ALARM_REFUSED_UNSOUND to ALARM_REFUSED_END (22 to 31, 33 and 34), and no other number; on a
  * refusal *length is 0, and reg and answer are as they were. An answer such as ALARM_CODE_UNAUTHORIZED is no refusal: the
  * result is 0, and the answer's first byte tells.
  *
  * That alarm_open and alarm_step return these numbers alone is proved (theorem `numbers`, docs/NUMBERS.md): a host that
  * handles the refusals listed below handles all there are.
  *
- * An answer slice of ALARM_ANSWER_ROOM is enough for operations 1 to 7 and 11, and needed for them. A list of n records
- * needs ALARM_LIST_ROOM(n); no answer needs more than ALARM_LIST_ROOM of the largest of the three limits.
+ * An answer slice of ALARM_ANSWER_ROOM is enough for operations 1 to 7, 11, 13 and 14, and needed for them. A list of n
+ * records needs ALARM_LIST_ROOM(n); no answer needs more than ALARM_LIST_ROOM of the largest of the three limits.
  *
  * No pointer may be null, even where its length is 0, and the parts must not overlap.
  */
@@ -64,14 +64,15 @@ uint32_t alarm_step(uint8_t *reg, size_t reg_len, const uint8_t *call, size_t ca
     ((size_t)ALARM_HEAD_WIDTH + (size_t)ALARM_RECORD_WIDTH * (size_t)(records))
 
 /*
- * Refusals: what alarm_open (20, 21) and alarm_step (22 to 31, and 33) return besides 0. Checks go in the order of 20 to
- * 31, and the first fault wins; a call is read field by field, and of 23 to 29 and 33 the one that is met first is
- * returned: 33 at a raise's text, directly after 26 and 27 for it, and so before 24 to 26 for the details behind it.
+ * Refusals: what alarm_open (20, 21) and alarm_step (22 to 31, 33 and 34) return besides 0. Checks go in the order of 20
+ * to 31, and the first fault wins; a call is read field by field, and of 23 to 29 and 33 the one that is met first is
+ * returned: 33 at a raise's text, directly after 26 and 27 for it, and so before 24 to 26 for the details behind it. 34
+ * comes behind all of these, bytes left over (24) among them, and before 30.
  */
 #define ALARM_REFUSED_LIMITS                   20u  /* opening: a limit is 0 or above 65,535 */
 #define ALARM_REFUSED_REGISTER_LENGTH          21u  /* opening: reg_len is not that of the limits */
 #define ALARM_REFUSED_UNSOUND                  22u  /* the bytes are not a sound register */
-#define ALARM_REFUSED_OPERATION                23u  /* the call is empty, or its operation not 1 to 12 */
+#define ALARM_REFUSED_OPERATION                23u  /* the call is empty, or its operation not 1 to 14 */
 #define ALARM_REFUSED_CALL_LENGTH              24u  /* the call ends early, or has bytes left over */
 #define ALARM_REFUSED_VALUE                    25u  /* a byte of the call is outside its values */
 #define ALARM_REFUSED_TOO_LONG                 26u  /* a string of the call is longer than its limit */
@@ -81,6 +82,7 @@ uint32_t alarm_step(uint8_t *reg, size_t reg_len, const uint8_t *call, size_t ca
 #define ALARM_REFUSED_ANSWER_LENGTH            30u  /* answer_len is too short for the answer */
 #define ALARM_REFUSED_ID_ACTIVE                31u  /* a raise would store an id that is active */
 #define ALARM_REFUSED_CODE_POINTS              33u  /* a raise's text has more than 120 code points */
+#define ALARM_REFUSED_END                      34u  /* a suppression's end is not later than the call's time */
 
 /* Operations: a call's first byte. The fields that follow are in docs/CALLS.md. */
 #define ALARM_OP_RAISE                         1u
@@ -95,6 +97,8 @@ uint32_t alarm_step(uint8_t *reg, size_t reg_len, const uint8_t *call, size_t ca
 #define ALARM_OP_COUNTS                        10u
 #define ALARM_OP_SUMMARY                       11u
 #define ALARM_OP_TAKE_AUDIT                    12u
+#define ALARM_OP_SUPPRESS_UNTIL                13u  /* suppress with policy, with an end directly behind the time */
+#define ALARM_OP_LIFT                          14u  /* suppressions whose end is not after the cutoff */
 
 /* The head of an answer: code, three zeros, a u32 count of items, a u64 number. */
 #define ALARM_HEAD_CODE                        0u
@@ -112,12 +116,12 @@ uint32_t alarm_step(uint8_t *reg, size_t reg_len, const uint8_t *call, size_t ca
 #define ALARM_CODE_UNAUTHORIZED                8u  /* a message, a string */
 #define ALARM_CODE_AUDIT_FAILED                9u  /* a message, a string */
 #define ALARM_CODE_NOT_FOUND                   10u  /* the call's id, a string */
-#define ALARM_CODE_REPORT                      11u  /* operations 7 to 12, see below */
+#define ALARM_CODE_REPORT                      11u  /* operations 7 to 12 and 14, see below */
 /*
  * ALARM_CODE_REPORT, by operation. 7: number is how many expired, no body. 8, 9, 12: count records. 10: count entries of
  * severity byte, u32 alarms, cause string. 11: number is the active length, with suppressed alarms; the body is, of the
  * active alarms that are not suppressed, the worst severity or ALARM_SEVERITY_NONE and the worst readiness, and then the
- * two u64 counters of audit events stored and lost.
+ * two u64 counters of audit events stored and lost. 14: number is how many were lifted, no body.
  */
 
 /* Severities. */
@@ -137,7 +141,7 @@ uint32_t alarm_step(uint8_t *reg, size_t reg_len, const uint8_t *call, size_t ca
 
 /* States of an alarm: 0 to 3 are active, 4 and 5 stand in history only. */
 #define ALARM_STATE_RAISED                     0u
-#define ALARM_STATE_UPDATED                    1u
+#define ALARM_STATE_UPDATED                    1u  /* raised again, or lifted from a suppression */
 #define ALARM_STATE_ACKNOWLEDGED               2u
 #define ALARM_STATE_SUPPRESSED                 3u
 #define ALARM_STATE_CLEARED                    4u
@@ -206,7 +210,7 @@ uint32_t alarm_step(uint8_t *reg, size_t reg_len, const uint8_t *call, size_t ca
 /*
  * Offsets in a record that holds an alarm, in a register or an answer. Bytes 0 to 3 are the next index, zero in an
  * answer. A length is a u16 before the string's room; a byte PRESENT is 0 or 1; times are 8 bytes, the key 16. RAISES is
- * a u32: alarm_record_raises reads it.
+ * a u32: alarm_record_raises reads it. END is the time until which an alarm is suppressed: alarm_record_end reads it.
  */
 #define ALARM_RECORD_KEY                       4u
 #define ALARM_RECORD_SEVERITY                  20u
@@ -243,6 +247,8 @@ uint32_t alarm_step(uint8_t *reg, size_t reg_len, const uint8_t *call, size_t ca
 #define ALARM_RECORD_DETAILS_LENGTH            937u
 #define ALARM_RECORD_DETAILS                   939u
 #define ALARM_RECORD_RAISES                    1451u
+#define ALARM_RECORD_END_PRESENT               1455u
+#define ALARM_RECORD_END                       1456u
 
 /* Offsets in a record that holds an audit event. */
 #define ALARM_EVENT_ACTION                     4u
@@ -281,6 +287,27 @@ static inline uint32_t alarm_record_raises(const uint8_t *record)
 {
     const uint8_t *raises = record + ALARM_RECORD_RAISES;
     return (uint32_t)raises[0] << 24 | (uint32_t)raises[1] << 16 | (uint32_t)raises[2] << 8 | (uint32_t)raises[3];
+}
+
+/*
+ * Whether an alarm is suppressed until a time (ALARM_OP_SUPPRESS_UNTIL): 1, and *end is that time; or 0, and *end stays as
+ * it was. Only a record in ALARM_STATE_SUPPRESSED has an end. Nothing happens at the end by itself: the alarm stays
+ * suppressed until an ALARM_OP_LIFT with that cutoff or a later one. A raise keeps the end; an acknowledgement, another
+ * suppression, a clear and an expiry remove it. An entry of history has the end as of its change.
+ *
+ * The record is as for alarm_record_raises.
+ */
+static inline int alarm_record_end(const uint8_t *record, int64_t *end)
+{
+    uint64_t time = 0;
+    size_t i;
+    if (record[ALARM_RECORD_END_PRESENT] == 0)
+        return 0;
+    for (i = 0; i < 8; i++)
+        time = time << 8 | record[ALARM_RECORD_END + i];
+    /* a u64 above the largest i64 is converted as each compiler likes, and so not directly */
+    *end = time <= INT64_MAX ? (int64_t)time : -(int64_t)(UINT64_MAX - time) - 1;
+    return 1;
 }
 
 #ifdef __cplusplus

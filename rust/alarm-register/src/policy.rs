@@ -182,8 +182,8 @@ impl<'a> SuppressUntil<'a> {
         SuppressUntil { time, end, id, principal, tenant, reason, scope, correlation, critical_allowed, authorised, denial }
     }
 
-    /// The same suppression without its end.
-    fn without_end(&self) -> PolicyAction<'a> {
+    /// The same suppression without its end: operation 6.
+    pub fn without_end(&self) -> PolicyAction<'a> {
         let SuppressUntil { time, end: _, id, principal, tenant, reason, scope, correlation, .. } = *self;
         let SuppressUntil { critical_allowed, authorised, denial, .. } = *self;
         let action = Action::Suppress;

@@ -10,7 +10,7 @@ use alarm_register::{Refusal, Severity, HEAD_WIDTH};
 
 /// Whether a call returns and tells the same in both runs: one that lists nothing and asks no policy.
 fn keeps_head(call: &[u8]) -> bool {
-    matches!(call.first(), Some(1..=4 | 7 | 11))
+    matches!(call.first(), Some(1..=4 | 7 | 11 | 14))
 }
 
 /// What a call returned, and the head of its answer.
@@ -51,7 +51,7 @@ impl Bounds {
 
     /// Looks at both runs after a call.
     pub fn see(&mut self, number: usize, steps: &[Step<'_>; 2]) {
-        let answered_policy = |step: &Step<'_>| matches!(step.call.first(), Some(5 | 6)) && step.got.is_ok();
+        let answered_policy = |step: &Step<'_>| matches!(step.call.first(), Some(5 | 6 | 13)) && step.got.is_ok();
         if number > self.change.number && steps.iter().any(answered_policy) {
             self.unbounded_from.get_or_insert(number);
         }
@@ -93,9 +93,9 @@ impl Bounds {
         std::iter::once(length).chain(Severity::ALL.iter().map(count)).collect()
     }
 
-    /// The bound of a figure at the end of the list, if one is proved. Calls by their answer are counted by code, and expired alarms
-    /// by number: up to the raise both runs are one; behind it operations 1 to 4, 7 and 11 answer with the same head, and all
-    /// others that are answered with code 11, which is counted of expiries alone.
+    /// The bound of a figure at the end of the list, if one is proved. Calls by their answer are counted by code, and expired and
+    /// lifted alarms by number: up to the raise both runs are one; behind it operations 1 to 4, 7, 11 and 14 answer with the same
+    /// head, and all others that are answered with code 11, which is counted of expiries and lifts alone.
     pub fn bound(&self, name: &str) -> Option<Bound> {
         if self.unbounded_from.is_some() {
             return None;
@@ -202,10 +202,13 @@ mod tests {
             let got = if answered { Ok(&[][..]) } else { Err(Refusal::CallLength) };
             [(); 2].map(|()| Step { call: operation, got, register: &empty })
         };
-        let cases: [(usize, &[u8], bool, Option<usize>); 6] = [
+        let cases: [(usize, &[u8], bool, Option<usize>); 9] = [
             (3, &[5], true, Some(3)),
             (3, &[6], true, Some(3)),
+            (3, &[13], true, Some(3)),
             (3, &[6], false, None),
+            (3, &[13], false, None),
+            (3, &[14], true, None),
             (3, &[4], true, None),
             (3, &[7], true, None),
             (1, &[6], true, None),
@@ -243,8 +246,8 @@ mod tests {
             [Ok(&whole), refused(Refusal::AnswerLength)],
             [refused(Refusal::CallLength), refused(Refusal::AnswerLength)],
         ];
-        for (operation, got) in (1..=12).flat_map(|operation| differing.map(|got| (operation, got))) {
-            let kept = [1, 2, 3, 4, 7, 11].contains(&operation);
+        for (operation, got) in (1..=14).flat_map(|operation| differing.map(|got| (operation, got))) {
+            let kept = [1, 2, 3, 4, 7, 11, 14].contains(&operation);
             assert_eq!(fault_of(operation, got).is_some(), kept, "operation {operation}: {got:?}");
         }
         for same in [[Ok(&whole[..]), Ok(&body[..])], [refused(Refusal::AnswerLength); 2]] {
@@ -272,9 +275,13 @@ mod tests {
             second: Some(second.to_string()),
             equal: second == "1",
         };
-        for (name, second, broken) in
-            [("suppressed", "0", true), ("expired", "2", true), ("suppressed", "1", false), ("refused", "2", false)]
-        {
+        for (name, second, broken) in [
+            ("suppressed", "0", true),
+            ("expired", "2", true),
+            ("lifted", "2", true),
+            ("suppressed", "1", false),
+            ("refused", "2", false),
+        ] {
             let mut bounds = bounds();
             bounds.see_rows(&[row("raised", "1"), row(name, second)]);
             let said =
@@ -292,7 +299,7 @@ mod tests {
         let mut bounds = bounds();
         let (equal, listed, changed) = (Some(Bound::Equal), Some(Bound::OneMoreAsListed), Some(Bound::OneMoreAsChanged));
         let figures = [("active at end", equal), ("active at end minor", listed), ("active at end major", changed)];
-        let others = [("active at end critical", equal), ("raised", equal), ("expired", equal), ("not found", equal)];
+        let others = ["active at end critical", "raised", "expired", "lifted", "not found"].map(|name| (name, equal));
         let none = [
             "calls",
             "refused",

@@ -120,10 +120,10 @@ fn walk(bytes: &[u8], chain: Chain, head: usize, on_chain: &mut [Option<Chain>])
 #[cfg(test)]
 mod tests {
     use super::{finding, register};
-    use alarm_register::layout::alarm::RAISES;
-    use alarm_register::{Limits, Object, PolicyAction, Raise, Register, Severity, Time, ANSWER_ROOM, RECORD_WIDTH};
+    use alarm_register::layout::alarm::{END, RAISES, STATE};
+    use alarm_register::{Limits, Object, Raise, Register, Severity, SuppressUntil, Time, ANSWER_ROOM, RECORD_WIDTH};
 
-    /// A register with two active alarms, three entries of history and one event.
+    /// A register with two active alarms, the first suppressed until a time, three entries of history and one event.
     fn filled(limits: Limits) -> Vec<u8> {
         let (mut bytes, mut answer) = (vec![0; limits.register_length()], [0; ANSWER_ROOM]);
         let mut opened = Register::open(&mut bytes, limits).unwrap();
@@ -133,7 +133,7 @@ mod tests {
             let raise = Raise::new(Time(1), id, "t", Severity::Minor, "other:a.b", object).region("r").details(b"d");
             opened.perform(&raise, &mut answer).unwrap();
         }
-        opened.perform(&PolicyAction::suppress(Time(2), "a", "p").authorised(true), &mut answer).unwrap();
+        opened.perform(&SuppressUntil::new(Time(2), Time(3), "a", "p").authorised(true), &mut answer).unwrap();
         bytes
     }
 
@@ -172,5 +172,36 @@ mod tests {
         }
         // each of the four bytes in the header, in the event and in two free records; not in five alarms
         assert_eq!(unsound, [0, 5, 7, 8].map(|record| [record; 4]).concat());
+    }
+    #[test]
+    fn an_end_is_told_where_the_state_has_none() {
+        let whole = filled(Limits { active: 2, history: 4, audit: 2 });
+        // records 1 and 3 are the active alarms, 2 and 4 their entries of history, 6 that of the suppression
+        for (record, state, said) in
+            [(1, 0, "raised"), (1, 1, "updated"), (1, 2, "acknowledged"), (6, 4, "cleared"), (6, 5, "expired")]
+        {
+            let mut bytes = whole.clone();
+            bytes[record * RECORD_WIDTH + STATE] = state;
+            let what = format!("an end is present in state {said}, and only suppressed has one");
+            assert!(!Register::over(&mut bytes).is_sound());
+            assert_eq!(register(&bytes), [finding(record * RECORD_WIDTH + END, what)]);
+        }
+        for (record, at, value, said) in [
+            (2, END, 1, "an end is present in state raised, and only suppressed has one"),
+            (1, END, 2, "the option byte of end is 2, not 0 to 1"),
+            (3, END + 8, 9, "a byte without meaning is 9, not zero"),
+            (5, END, 1, "a byte without meaning is 1, not zero"),
+        ] {
+            let mut bytes = whole.clone();
+            bytes[record * RECORD_WIDTH + at] = value;
+            assert!(!Register::over(&mut bytes).is_sound());
+            assert_eq!(register(&bytes)[0], finding(record * RECORD_WIDTH + at, said.to_string()));
+        }
+        for (record, at, value) in [(1, END + 1, 255), (6, END + 8, 0)] {
+            let mut bytes = whole.clone();
+            bytes[record * RECORD_WIDTH + at] = value;
+            assert!(Register::over(&mut bytes).is_sound());
+            assert_eq!(register(&bytes), []);
+        }
     }
 }

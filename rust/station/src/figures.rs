@@ -11,12 +11,13 @@ pub type Figure = (String, String);
 
 /// The codes of answers that are counted by themselves.
 const CODES: RangeInclusive<u8> = 1..=10;
-/// The name of the numbers that expire calls gave, added up.
+/// The names of the numbers that expire calls gave, added up, and of those that lift calls gave.
 const EXPIRED: &str = "expired";
+const LIFTED: &str = "lifted";
 
-/// Whether a figure counts calls by their answer's code, or adds up the numbers that expire calls gave.
+/// Whether a figure counts calls by their answer's code, or adds up the numbers that expire calls or lift calls gave.
 pub fn is_by_answer(name: &str) -> bool {
-    name == EXPIRED || CODES.filter_map(code_name).any(|code| code == name)
+    [EXPIRED, LIFTED].contains(&name) || CODES.filter_map(code_name).any(|code| code == name)
 }
 
 /// The figures of a list, from its answers and the register at its end.
@@ -32,6 +33,7 @@ pub fn of(machine: &Machine, tally: &Tally) -> Result<Vec<Figure>, Refusal> {
         add(name.to_string(), tally.answers(code).to_string());
     }
     add(EXPIRED.to_string(), tally.balance.expired.to_string());
+    add(LIFTED.to_string(), tally.lifted.to_string());
     at_end(machine, &mut add)?;
     for raises in &tally.causes {
         add(format!("alarms {}", raises.cause), raises.alarms.to_string());

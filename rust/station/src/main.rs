@@ -69,14 +69,16 @@ Makes a list of calls from its text: one call a line, as in
   day 14 March 2026
   09:12 suppress id=A1 authorised=yes
   2026-03-14 09:13 acknowledge id=A2 authorised=no
+  lift up-to 16:05
   summary
 
 docs/CALLS.md has every operation and every way to write a date; examples/day.txt
 is a whole day. A call that a register would refuse for what it says (numbers 23
-to 29, and 33) is a fault here, told with its line and column, which are counted
+to 29, 33 and 34) is a fault here, told with its line and column, which are counted
 in characters. So are the 120 that an alarm's text may have: of a longer one the
-first character too many is named. `raw` takes bytes of any kind. TEXT may be -
-for standard input.
+first character too many is named. The end of a suppress-until that is not later
+than the call's time is told where it stands. `raw` takes bytes of any kind. TEXT
+may be - for standard input.
 
   -o LIST   writes the list to a file; without it, to standard output
 

@@ -27,6 +27,9 @@ The column `times` tells how often an alarm was raised since it became active:
 raised anew after a clear or an expiry it starts at 1. In history it is as of that
 change, or of the last of like changes in a row, which share an entry.
 
+Where an alarm is suppressed until a time, `until` and that time stand below its
+state. It stays suppressed until a lift comes, also behind that time.
+
 In the summary worst severity and readiness are of the active alarms that are not
 suppressed; how many are suppressed stands below the number of active ones.
 

@@ -30,14 +30,14 @@ Bounds are proved for every list of calls, as long as no policy call behind call
 is answered (theorem reach). After each call as many alarms are active in both
 runs; of the severity that call N has in a run, that run may have one active alarm
 more; of every other severity both have as many. Calls by their answer (raised,
-updated, cleared and so on) and expired alarms are equal: raise, clear,
-acknowledge, suppress, expire and summary are refused alike in both runs, or
+updated, cleared and so on) and expired and lifted alarms are equal: raise, clear,
+acknowledge, suppress, expire, lift and summary are refused alike in both runs, or
 answered with the same code and number.
 
-From the first policy call behind call N (acknowledge-with-policy or
-suppress-with-policy) that is answered nothing is bounded, since a critical
-severity may stop a suppression. Policy calls that are refused do no harm, nor do
-those before call N.
+From the first policy call behind call N (acknowledge-with-policy,
+suppress-with-policy or suppress-until) that is answered nothing is bounded, since
+a critical severity may stop a suppression. Policy calls that are refused do no
+harm, nor do those before call N.
 
 Of figures without a bound nothing is claimed: where one is equal in this list, it
 may differ in others. History is among them: whether a change gets an entry of its
@@ -130,8 +130,8 @@ fn sentences(bounds: &Bounds, calls: usize) -> Vec<String> {
     let Change { number, listed, changed, .. } = &bounds.change;
     let bound = format!(
         "as many alarms are active in both runs, the counts of {listed} and {changed} differ by at most 1, those of every other \
-         severity are equal, and raise, clear, acknowledge, suppress, expire and summary are refused alike, or answered with the \
-         same code and number. That is proved for every list of calls as long as no policy call behind the raise is answered \
+         severity are equal, and raise, clear, acknowledge, suppress, expire, lift and summary are refused alike, or answered with \
+         the same code and number. That is proved for every list of calls as long as no policy call behind the raise is answered \
          (theorem reach)"
     );
     let reach = match bounds.unbounded_from {

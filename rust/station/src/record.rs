@@ -1,6 +1,6 @@
 //! What is wrong with a record's bytes, field by field.
 use alarm_register::layout::{alarm, event, StringSlot};
-use alarm_register::{Limits, Object, Raise, RaiseAnswer, Register, Severity, Time, ANSWER_ROOM, RECORD_WIDTH};
+use alarm_register::{Limits, Object, Raise, RaiseAnswer, Register, Severity, State, Time, ANSWER_ROOM, RECORD_WIDTH};
 use std::fmt;
 use std::ops::RangeInclusive;
 
@@ -107,7 +107,7 @@ impl<'a> Fields<'a> {
     fn alarm(&mut self, states: RangeInclusive<u8>) {
         self.part(alarm::KEY, 16);
         self.byte("the severity", alarm::SEVERITY, 0..=5);
-        self.byte("the state", alarm::STATE, states);
+        let state = self.byte("the state", alarm::STATE, states);
         self.part(alarm::RAISED_AT, 8);
         self.part(alarm::UPDATED_AT, 8);
         if self.byte("the option byte of cleared_at", alarm::CLEARED_AT, 0..=1) == 1 {
@@ -127,6 +127,17 @@ impl<'a> Fields<'a> {
             self.bytes(alarm::DETAILS);
         }
         self.part(alarm::RAISES, 4);
+        self.end(state);
+    }
+
+    fn end(&mut self, state: u8) {
+        if self.byte("the option byte of end", alarm::END, 0..=1) == 1 {
+            self.part(alarm::END + 1, 8);
+            if state != State::Suppressed.byte() {
+                let state = State::from_byte(state).map_or(state.to_string(), |state| state.to_string());
+                self.faults.push((alarm::END, format!("an end is present in state {state}, and only suppressed has one")));
+            }
+        }
     }
 
     fn object(&mut self) {

@@ -25,6 +25,7 @@ and has a figure on each line:
   audit failed, clear without active, active limit exceeded
                             calls with this answer
   expired                   alarms that expire calls ended
+  lifted                    suppressions that lift calls ended
   alarms CAUSE              new alarms of a cause
   raises CAUSE              raises of a cause, with those of an active alarm
   active at end, active at end SEVERITY CAUSE, suppressed at end,

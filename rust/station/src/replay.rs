@@ -91,6 +91,8 @@ pub struct Tally {
     pub codes: BTreeMap<u8, Often>,
     /// Alarms raised, cleared and expired by all calls together.
     pub balance: Balance,
+    /// Suppressions that lift calls ended.
+    pub lifted: u128,
     /// Raises by cause, in the order in which causes first appear.
     pub causes: Vec<Raises>,
     /// The records of audit events that calls took out, each with the place of its call.
@@ -123,6 +125,7 @@ impl Tally {
         self.balance.add(call, answer);
         match call.first() {
             Some(1) if head.code <= 2 => self.raised(head.code == 1, body),
+            Some(14) => self.lifted += u128::from(head.number),
             Some(12) => self.taken.extend(records(answer).map(|record| (self.calls, record.to_vec()))),
             _ => {}
         }

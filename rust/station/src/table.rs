@@ -66,8 +66,8 @@ pub enum Cell {
     Text(String),
     /// A number.
     Number(u64),
-    /// A time for scripts, and the lines in which a page shows it.
-    Time { plain: String, on_page: [String; 2] },
+    /// Words for scripts, and the lines in which a page shows them.
+    InLines { plain: String, on_page: Vec<String> },
     /// Nothing.
     None,
 }
@@ -85,7 +85,7 @@ impl Cell {
 
     fn plain(&self) -> String {
         match self {
-            Cell::Text(text) | Cell::Time { plain: text, .. } => text.clone(),
+            Cell::Text(text) | Cell::InLines { plain: text, .. } => text.clone(),
             Cell::Number(number) => number.to_string(),
             Cell::None => String::new(),
         }
@@ -94,14 +94,14 @@ impl Cell {
     /// The lines in which a page shows it.
     fn lines(&self) -> Vec<String> {
         match self {
-            Cell::Time { on_page, .. } => on_page.to_vec(),
+            Cell::InLines { on_page, .. } => on_page.clone(),
             cell => Some(quoted_for_page(&cell.plain())).filter(|line| !line.is_empty()).into_iter().collect(),
         }
     }
 
     fn json(&self) -> String {
         match self {
-            Cell::Text(text) | Cell::Time { plain: text, .. } => json_string(text),
+            Cell::Text(text) | Cell::InLines { plain: text, .. } => json_string(text),
             Cell::Number(number) => number.to_string(),
             Cell::None => "null".to_string(),
         }

@@ -62,6 +62,7 @@ fn alarms<'a>(
         off_page("details"),
         off_page("key"),
         numbers("times"),
+        off_page("end"),
     ];
     let rows: Vec<Vec<Cell>> = alarms.map(|one| alarm(one, zone)).collect();
     Table { name, title: format!("{title}: {}, oldest first", rows.len()), columns, rows }
@@ -73,7 +74,7 @@ fn alarm(alarm: Alarm<'_>, zone: Zone) -> Vec<Cell> {
         at(alarm.updated_at, zone),
         alarm.cleared_at.map_or(Cell::None, |time| at(time, zone)),
         Cell::of(alarm.severity),
-        Cell::of(alarm.state),
+        state(&alarm, zone),
         Cell::of(alarm.id),
         Cell::of(alarm.alarm_type),
         Cell::of(alarm.cause),
@@ -85,11 +86,19 @@ fn alarm(alarm: Alarm<'_>, zone: Zone) -> Vec<Cell> {
         Cell::maybe(alarm.details.map(hexadecimal)),
         Cell::of(alarm.key),
         Cell::Number(alarm.raises.into()),
+        alarm.end.map_or(Cell::None, |time| at(time, zone)),
     ]
 }
 
 fn at(time: Time, zone: Zone) -> Cell {
-    Cell::Time { plain: zone.show(time), on_page: zone.show_in_lines(time) }
+    Cell::InLines { plain: zone.show(time), on_page: zone.show_in_lines(time).to_vec() }
+}
+
+/// The state, on a page with the end of a suppression: `suppressed`, `until 16:00:00` and `14 Mar 2026`.
+fn state(alarm: &Alarm<'_>, zone: Zone) -> Cell {
+    let Some(end) = alarm.end else { return Cell::of(alarm.state) };
+    let [date, clock] = zone.show_in_lines(end);
+    Cell::InLines { plain: alarm.state.to_string(), on_page: vec![alarm.state.to_string(), format!("until {clock}"), date] }
 }
 
 fn hexadecimal(bytes: &[u8]) -> String {
@@ -196,6 +205,41 @@ mod tests {
     use crate::ruled::PAGE_WIDTH;
     use alarm_register::{Alarm, Key, Object, Severity, State, Time};
 
+    fn page_of(alarm: Alarm<'_>, zone: &str) -> super::Table {
+        let zone = Zone::of(zone).unwrap();
+        alarms("active", "T", [clock_times("raised_at"), off_page("updated_at")], zone, [alarm].into_iter())
+    }
+
+    #[test]
+    fn the_end_of_a_suppression_stands_below_its_state() {
+        let alarm = Alarm {
+            key: Key([0; 16]),
+            severity: Severity::Minor,
+            state: State::Suppressed,
+            raised_at: Time(0),
+            updated_at: Time(0),
+            cleared_at: None,
+            id: "a",
+            alarm_type: "t",
+            cause: "lease-lost",
+            object: Object::Tenant { tenant: "a" },
+            tenant: None,
+            slice: None,
+            region: None,
+            text: "",
+            details: None,
+            raises: 1,
+            end: Some(Time(1_773_500_400_000_000_000)),
+        };
+        let (timed, untimed) = (page_of(alarm, "+01:00"), page_of(Alarm { end: None, ..alarm }, "+01:00"));
+        let lines: Vec<String> =
+            timed.ruled().lines().skip(5).map(|line| line.split('│').nth(1).unwrap_or("").trim().to_string()).collect();
+        assert_eq!(lines[..4], ["minor", "suppressed", "until 16:00:00", "14 Mar 2026"]);
+        assert!(!untimed.ruled().contains("until"));
+        assert!(timed.csv().contains(",minor,suppressed,a,t,") && timed.csv().ends_with(",1,2026-03-14 16:00:00\n"));
+        assert!(untimed.csv().contains(",minor,suppressed,a,t,") && untimed.csv().ends_with(",1,\n"));
+    }
+
     #[test]
     fn the_largest_number_of_raises_fits_the_page_beside_the_longest_fields() {
         // the text is longer than a raise may bring it now: it was stored before
@@ -203,7 +247,7 @@ mod tests {
         let alarm = Alarm {
             key: Key([255; 16]),
             severity: Severity::Indeterminate,
-            state: State::Acknowledged,
+            state: State::Suppressed,
             raised_at: Time(i64::MAX),
             updated_at: Time(i64::MAX),
             cleared_at: None,
@@ -217,13 +261,17 @@ mod tests {
             text: &text,
             details: None,
             raises: u32::MAX,
+            end: Some(Time(i64::MAX)),
         };
-        let table =
-            alarms("active", "T", [clock_times("raised_at"), off_page("updated_at")], Zone::default(), [alarm].into_iter());
+        let table = page_of(alarm, "UTC");
         let page = table.ruled();
         assert!(page.lines().all(|line| line.chars().count() <= PAGE_WIDTH), "{page}");
         assert_eq!(page.lines().filter(|line| line.ends_with("│ 4294967295")).count(), 1, "{page}");
         assert_eq!(page.matches('Q').count(), 256, "{page}");
-        assert!(table.csv().starts_with("raised_at,") && table.csv().ends_with(",4294967295\n"), "{}", table.csv());
+        assert!(
+            table.csv().starts_with("raised_at,") && table.csv().ends_with(",4294967295,2262-04-11 23:47:16.854775807\n"),
+            "{}",
+            table.csv()
+        );
     }
 }

@@ -141,7 +141,7 @@ fn table(compared: &Compared, replaced: usize) -> Table {
 #[cfg(test)]
 mod tests {
     use super::{masked_answer, masked_register, other_texts, Step};
-    use alarm_register::layout::alarm::RAISES;
+    use alarm_register::layout::alarm::{END, RAISES};
     use alarm_register::{
         check_call, Limits, Object, Operation, Raise, Register, Severity, Time, ANSWER_ROOM, HEAD_WIDTH, RECORD_WIDTH,
     };
@@ -166,13 +166,13 @@ mod tests {
     }
 
     #[test]
-    fn twins_may_differ_up_to_the_raises_of_an_alarm_and_not_in_them() {
+    fn twins_may_differ_up_to_the_raises_of_an_alarm_and_not_in_them_or_the_end() {
         let limits = Limits { active: 1, history: 1, audit: 1 };
         let (mut bytes, mut room) = (vec![0; limits.register_length()], [0; ANSWER_ROOM]);
         let raise = raise("");
         let got = Register::open(&mut bytes, limits).unwrap().step(&raise, &mut room).unwrap().to_vec();
         let answered = |got: &[u8]| masked_answer(&Step { call: &raise, got: Ok(got), register: &[] });
-        for (at, same) in [(RAISES - 1, true), (RAISES, false), (RAISES + 3, false)] {
+        for (at, same) in [(RAISES - 1, true), (RAISES, false), (RAISES + 3, false), (END, false), (END + 8, false)] {
             let (mut other_bytes, mut other_got) = (bytes.clone(), got.clone());
             other_bytes[RECORD_WIDTH + at] ^= 255;
             other_got[HEAD_WIDTH + at] ^= 255;

@@ -2,17 +2,21 @@
 use super::cursor::{Cursor, Fault};
 use super::date::Calendar;
 use super::fields::{self, Fields, Value};
+use super::policy::{self, SUPPRESS_UNTIL};
 use super::Parsed;
 use alarm_register::layout::longest;
 use alarm_register::{
-    Action, Call, Clear, CountActive, Expire, ListActive, ListHistory, Object, PlainAction, PolicyAction, Raise, Scope, Severity,
-    Summarise, TakeAudit, Time, TEXT_CODE_POINTS,
+    Action, Call, Clear, CountActive, Expire, Lift, ListActive, ListHistory, Object, PlainAction, Raise, Severity, Summarise,
+    TakeAudit, Time, TEXT_CODE_POINTS,
 };
 
 const OPERATIONS: &str = "an operation is raise, clear, acknowledge, suppress, acknowledge-with-policy, suppress-with-policy, \
-                          expire, active, history, counts, summary, take-audit or raw";
+                          suppress-until, expire, lift, active, history, counts, summary, take-audit or raw";
 /// Operations that begin with their time.
-const TIMED: [&str; 6] = ["raise", "clear", "acknowledge", "suppress", "acknowledge-with-policy", "suppress-with-policy"];
+const TIMED: [&str; 7] =
+    ["raise", "clear", "acknowledge", "suppress", "acknowledge-with-policy", "suppress-with-policy", SUPPRESS_UNTIL];
+/// Operations with a cutoff, and the word before it.
+const CUTOFFS: [(&str, &str); 2] = [("expire", "before"), ("lift", "up-to")];
 
 /// The call of a line.
 pub fn read(line: &mut Cursor<'_>, calendar: &Calendar) -> Result<Parsed, Fault> {
@@ -21,19 +25,21 @@ pub fn read(line: &mut Cursor<'_>, calendar: &Calendar) -> Result<Parsed, Fault>
     let start = line.clone();
     let word = line.word();
     match time {
+        Some(time) if word == SUPPRESS_UNTIL => policy::suppress_until(time, line, calendar),
         Some(time) if TIMED.contains(&word) => timed(word, time, line),
         None if TIMED.contains(&word) => {
             Err(start.fault(&format!("{word} needs its time before it, as 2026-03-14 09:30 {word}")))
         }
-        Some(_) if word == "expire" => Err(start.fault("the cutoff stands behind: expire before 2026-03-14 09:30")),
+        Some(_) if cutoff_word(word).is_some() => Err(start.fault(&format!("the cutoff stands behind: {}", with_cutoff(word)))),
         Some(_) if !OPERATIONS.split([' ', ',']).any(|known| known == word) => Err(start.fault(OPERATIONS)),
         Some(_) => Err(start.fault(&format!("{word} has no time"))),
         None => untimed(word, &start, line, calendar),
     }
 }
 
-fn plain(call: Call<'_>) -> Parsed {
-    Parsed { bytes: call.bytes().as_bytes().to_vec(), judged: true, cause: None, region: None }
+/// A call that has no place where a person should look for what a register refuses.
+pub fn plain(call: Call<'_>) -> Parsed {
+    Parsed { bytes: call.bytes().as_bytes().to_vec(), judged: true, cause: None, region: None, end: None }
 }
 
 fn timed(word: &str, time: Time, line: &mut Cursor<'_>) -> Result<Parsed, Fault> {
@@ -43,15 +49,16 @@ fn timed(word: &str, time: Time, line: &mut Cursor<'_>) -> Result<Parsed, Fault>
         "clear" => clear(time, &mut fields)?,
         "acknowledge" => plain_action(Action::Acknowledge, time, &mut fields)?,
         "suppress" => plain_action(Action::Suppress, time, &mut fields)?,
-        "acknowledge-with-policy" => policy_action(Action::Acknowledge, time, &mut fields)?,
-        _ => policy_action(Action::Suppress, time, &mut fields)?,
+        "acknowledge-with-policy" => policy::action(Action::Acknowledge, time, &mut fields)?,
+        _ => policy::action(Action::Suppress, time, &mut fields)?,
     };
     fields.none_left(word).map(|()| parsed)
 }
 
 fn untimed(word: &str, start: &Cursor<'_>, line: &mut Cursor<'_>, calendar: &Calendar) -> Result<Parsed, Fault> {
     match word {
-        "expire" => return expire(line, calendar),
+        "expire" => return Ok(plain(Call::Expire(Expire { before: cutoff(word, line, calendar)? }))),
+        "lift" => return Ok(plain(Call::Lift(Lift { up_to: cutoff(word, line, calendar)? }))),
         "raw" => return raw(line),
         _ => {}
     }
@@ -70,15 +77,26 @@ fn untimed(word: &str, start: &Cursor<'_>, line: &mut Cursor<'_>, calendar: &Cal
     fields.none_left(word).map(|()| parsed)
 }
 
-fn expire(line: &mut Cursor<'_>, calendar: &Calendar) -> Result<Parsed, Fault> {
+/// The word before an operation's cutoff, if it has one.
+fn cutoff_word(operation: &str) -> Option<&'static str> {
+    CUTOFFS.into_iter().find_map(|(known, word)| (known == operation).then_some(word))
+}
+
+/// How an operation is written with its cutoff.
+fn with_cutoff(operation: &str) -> String {
+    format!("{operation} {} 2026-03-14 09:30", cutoff_word(operation).unwrap_or_default())
+}
+
+/// The cutoff, which is all that an operation has.
+fn cutoff(operation: &str, line: &mut Cursor<'_>, calendar: &Calendar) -> Result<Time, Fault> {
     line.blanks();
-    let place = line.fault("the cutoff is written: expire before 2026-03-14 09:30");
-    if line.word() != "before" {
+    let place = line.fault(&format!("the cutoff is written: {}", with_cutoff(operation)));
+    if Some(line.word()) != cutoff_word(operation) {
         return Err(place);
     }
     line.blanks();
-    let before = calendar.time(line)?;
-    line.end().map(|()| plain(Call::Expire(Expire { before })))
+    let cutoff = calendar.time(line)?;
+    line.end().map(|()| cutoff)
 }
 
 fn raw(line: &mut Cursor<'_>) -> Result<Parsed, Fault> {
@@ -91,7 +109,7 @@ fn raw(line: &mut Cursor<'_>) -> Result<Parsed, Fault> {
     }
     let pair = |at: usize| u8::from_str_radix(&digits[at..at + 2], 16).map_err(|_| place.clone());
     let bytes = (0..digits.len()).step_by(2).map(pair).collect::<Result<_, _>>()?;
-    Ok(Parsed { bytes, judged: false, cause: None, region: None })
+    Ok(Parsed { bytes, judged: false, cause: None, region: None, end: None })
 }
 
 fn raise(time: Time, fields: &mut Fields) -> Result<Parsed, Fault> {
@@ -200,41 +218,4 @@ fn plain_action(action: Action, time: Time, fields: &mut Fields) -> Result<Parse
     let id = fields.string("id", longest::ID)?;
     let authorised = fields.flag("authorised")?;
     Ok(plain(Call::Plain(PlainAction { action, time, id: &id, authorised })))
-}
-
-fn policy_action(action: Action, time: Time, fields: &mut Fields) -> Result<Parsed, Fault> {
-    let (id, principal) = (fields.string("id", longest::ID)?, fields.string("principal", longest::PRINCIPAL)?);
-    let (make_scope, scope_string) = scope(fields.need("scope")?)?;
-    let reason = fields.option("reason", longest::REASON)?.unwrap_or_default();
-    let denial = fields.option("denial", longest::DENIAL)?.unwrap_or_default();
-    let tenant = fields.option("tenant", longest::TENANT)?;
-    let correlation = fields.option("correlation", longest::CORRELATION)?;
-    let call = PolicyAction {
-        action,
-        tenant: tenant.as_deref(),
-        reason: &reason,
-        scope: make_scope(&scope_string),
-        correlation: correlation.as_deref(),
-        critical_allowed: fields.flag("critical-allowed")?,
-        authorised: fields.flag("authorised")?,
-        denial: &denial,
-        ..PolicyAction::acknowledge(time, &id, &principal)
-    };
-    Ok(plain(Call::Policy(call)))
-}
-
-/// Makes a scope of its string.
-type MakeScope = fn(&str) -> Scope<'_>;
-
-/// How a scope is made of its string, and the string.
-fn scope(value: Value) -> Result<(MakeScope, String), Fault> {
-    let fault = Fault::new(value.column, "a scope is alarm(id), tenant(t) or global");
-    let make: MakeScope = match &value.bytes[..] {
-        b"alarm" => |id| Scope::Alarm(id),
-        b"tenant" => |tenant| Scope::Tenant(tenant),
-        b"global" if value.parts.is_none() => return Ok((|_| Scope::Global, String::new())),
-        _ => return Err(fault),
-    };
-    let [string] = <[Value; 1]>::try_from(value.parts.unwrap_or_default()).map_err(|_| fault)?;
-    Ok((make, string.string("a scope's string", longest::SCOPE)?))
 }

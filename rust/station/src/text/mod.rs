@@ -3,6 +3,7 @@ mod call;
 mod cursor;
 mod date;
 mod fields;
+mod policy;
 mod print;
 #[cfg(test)]
 mod tests;
@@ -133,9 +134,10 @@ pub(crate) struct Parsed {
     bytes: Vec<u8>,
     /// Whether a register must take it: raw bytes may be anything.
     judged: bool,
-    /// Where its cause and its region stand.
+    /// Where its cause, its region and its end stand.
     cause: Option<usize>,
     region: Option<usize>,
+    end: Option<usize>,
 }
 
 impl Parsed {
@@ -144,10 +146,12 @@ impl Parsed {
         let column = match refusal {
             Refusal::Cause => self.cause,
             Refusal::Region => self.region,
+            Refusal::End => self.end,
             _ => None,
         }?;
         let hint = match refusal {
             Refusal::Cause => "; one of your own needs a dot, as other:ropeway.sheave-wear",
+            Refusal::End => "; write its date where it is on another day",
             _ => "; leave the field out",
         };
         Some(Fault::new(column, &format!("{}{hint}", refusal.sentence())))

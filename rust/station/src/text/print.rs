@@ -1,4 +1,5 @@
 //! Calls, written as lines.
+use super::policy::SUPPRESS_UNTIL;
 use super::Zone;
 use alarm_register::{check_call, Action, Call, Clear, ListHistory, Object, PlainAction, PolicyAction, Raise, Scope};
 use std::fmt::Write;
@@ -23,7 +24,13 @@ fn of_call(call: &Call<'_>, zone: Zone) -> String {
         Call::Plain(PlainAction { action, time, id, authorised }) => {
             format!("{} {action} id={} authorised={}", zone.show(*time), word(id), yes(*authorised))
         }
-        Call::Policy(call) => policy(call, zone),
+        Call::Policy(call) => {
+            let operation = match call.action {
+                Action::Acknowledge => "acknowledge-with-policy",
+                Action::Suppress => "suppress-with-policy",
+            };
+            format!("{} {operation}{}", zone.show(call.time), policy(call))
+        }
         Call::Expire(call) => format!("expire before {}", zone.show(call.before)),
         Call::ListActive(call) => call.severity.map_or("active".to_string(), |severity| format!("active severity={severity}")),
         Call::ListHistory(ListHistory { tenant, slice }) => {
@@ -32,6 +39,11 @@ fn of_call(call: &Call<'_>, zone: Zone) -> String {
         Call::CountActive(_) => "counts".to_string(),
         Call::Summarise(_) => "summary".to_string(),
         Call::TakeAudit(call) => format!("take-audit at-most={}", call.at_most),
+        Call::SuppressUntil(call) => {
+            let end = zone.show(call.end);
+            format!("{} {SUPPRESS_UNTIL} {end}{}", zone.show(call.time), policy(&call.without_end()))
+        }
+        Call::Lift(call) => format!("lift up-to {}", zone.show(call.up_to)),
     }
 }
 
@@ -52,12 +64,9 @@ fn clear(call: &Clear<'_>, zone: Zone) -> String {
     line + &options(&[("tenant", call.tenant), ("slice", call.slice), ("region", call.region)])
 }
 
-fn policy(call: &PolicyAction<'_>, zone: Zone) -> String {
-    let operation = match call.action {
-        Action::Acknowledge => "acknowledge-with-policy",
-        Action::Suppress => "suppress-with-policy",
-    };
-    let mut line = format!("{} {operation} id={} principal={}", zone.show(call.time), word(call.id), word(call.principal));
+/// The fields of a call with policy, behind its operation.
+fn policy(call: &PolicyAction<'_>) -> String {
+    let mut line = format!(" id={} principal={}", word(call.id), word(call.principal));
     line += &options(&[("tenant", call.tenant)]);
     line += &unless_empty("reason", call.reason);
     let _ = match call.scope {

@@ -2,8 +2,8 @@
 use super::{read, write, Zone};
 use crate::list::List;
 use alarm_register::{
-    Action, Call, Clear, CountActive, Expire, Limits, ListActive, ListHistory, Object, Operation, PlainAction, PolicyAction,
-    Raise, Scope, Severity, Summarise, TakeAudit, Time,
+    Action, Call, Clear, CountActive, Expire, Lift, Limits, ListActive, ListHistory, Object, Operation, PlainAction,
+    PolicyAction, Raise, Scope, Severity, Summarise, SuppressUntil, TakeAudit, Time,
 };
 
 const LIMITS: Limits = Limits { active: 2, history: 3, audit: 1 };
@@ -28,6 +28,9 @@ fn calls() -> Vec<Vec<u8>> {
         Call::ListHistory(ListHistory { tenant: Some(""), slice: None }),
         Call::Expire(Expire { before: Time(i64::MIN) }),
         Call::Expire(Expire { before: Time(i64::MAX) }),
+        Call::Lift(Lift { up_to: Time(i64::MIN) }),
+        Call::Lift(Lift { up_to: Time(i64::MAX) }),
+        Call::SuppressUntil(SuppressUntil::new(Time(i64::MIN), Time(i64::MAX), "a", "p").authorised(true)),
     ];
     for (place, string) in STRINGS.into_iter().enumerate() {
         let time = Time(place as i64 * 1_000_000_007 - 3);
@@ -40,6 +43,8 @@ fn calls() -> Vec<Vec<u8>> {
         let scope = [Scope::Alarm(string), Scope::Tenant(string), Scope::Global][place % 3];
         let policy = PolicyAction::suppress(time, string, string).reason(string).scope(scope).correlation(string);
         calls.push(Call::Policy(policy.critical_allowed(place % 2 == 0).denial(string)));
+        let until = SuppressUntil::new(time, Time(time.0 + 1), string, string).tenant(string).reason(string).scope(scope);
+        calls.push(Call::SuppressUntil(until.correlation(string).authorised(place % 2 == 0).denial(string)));
     }
     calls.iter().map(|call| call.bytes().as_bytes().to_vec()).collect()
 }
@@ -97,7 +102,12 @@ fn faults_are_told_with_line_and_column() {
             &format!("{raise} cause=lease-lost object=tenant({})", "x".repeat(65)),
             "line 2, column 82: an object's string is 65 bytes long",
         ),
-        ("expire 2026-03-14 09:30", "line 2, column 8: the cutoff is written"),
+        ("expire 2026-03-14 09:30", "line 2, column 8: the cutoff is written: expire before 2026-03-14"),
+        ("lift 2026-03-14 09:30", "line 2, column 6: the cutoff is written: lift up-to 2026-03-14"),
+        ("lift before 2026-03-14 09:30", "line 2, column 6: the cutoff is written: lift up-to 2026-03-14"),
+        ("lift up-to 2026-03-14 09:30 id=a", "line 2, column 29: nothing more was expected here"),
+        ("2026-03-14 09:30 lift", "line 2, column 18: the cutoff stands behind: lift up-to 2026-03-14"),
+        ("2026-03-14 09:30 expire", "line 2, column 18: the cutoff stands behind: expire before 2026-03-14"),
         ("take-audit at-most=65536", "line 2, column 20: at-most is a number"),
         ("raw 0b0", "line 2, column 5: raw bytes"),
         ("raw zz", "line 2, column 5: nothing more was expected"),
@@ -111,6 +121,63 @@ fn faults_are_told_with_line_and_column() {
     }
     assert!(read("").unwrap_err().to_string().starts_with("line 1, column 1: the register's limits are missing"));
     assert!(read("# nothing\nsummary\n").unwrap_err().to_string().starts_with("line 2, column 1: the register's limits"));
+}
+
+/// The line of a suppression until an end as it is written. The end begins in column 33.
+fn until(end: &str) -> String {
+    format!("2026-03-14 13:06 suppress-until {end} id=a principal=p scope=global critical-allowed=no authorised=yes")
+}
+
+#[test]
+fn an_end_is_told_where_it_stands() {
+    let late =
+        "line 2, column 33: the suppression's end is not later than the call's time; write its date where it is on another day";
+    for end in [
+        "2026-03-14 13:06",
+        "2026-03-14 13:05:59.999999999",
+        "1970-01-01 00:00",
+        "2026-03-14 14:06 +01:00",
+        "14 March 2026 13:06",
+    ] {
+        assert_eq!(fault(&until(end)), late, "{end}");
+    }
+    let earlier = |line: &str| fault(&format!("zone +01:00\nday 2026-03-14\n{line}"));
+    let line = "23:30 suppress-until 02:00 id=a principal=p scope=global critical-allowed=no authorised=yes";
+    assert_eq!(earlier(line), late.replace("line 2, column 33", "line 4, column 22"));
+    for (end, said) in [
+        ("", "line 2, column 34: the end stands here: suppress-until 2026-03-14 16:00"),
+        ("end=16:00", "line 2, column 33: the end stands here: suppress-until 2026-03-14 16:00"),
+        ("16:00", "line 2, column 33: this time has no date"),
+        ("2026-03-14 25:00", "line 2, column 44: no clock shows this time"),
+        ("2026-03-14 16:00 end=1", "line 2, column 50: suppress-until has no field end"),
+    ] {
+        assert!(fault(&until(end)).starts_with(said), "{end}: {}", fault(&until(end)));
+    }
+    assert!(
+        fault("suppress-until 2026-03-14 16:00 id=a").starts_with("line 2, column 1: suppress-until needs its time before it")
+    );
+}
+
+#[test]
+fn an_end_is_taken_from_the_next_moment_on() {
+    let whole = read_line(&until("2026-03-14 13:06:00.000000001")).unwrap();
+    let said = "2026-03-14 14:06:00 suppress-until 2026-03-14 14:06:00.000000001 id=a principal=p scope=global";
+    assert!(write(&whole, Zone::of("+01:00").unwrap(), false).contains(said));
+    for end in ["2026-03-14 16:00", "15 March 2026 02:00", "14.3.2026 14:07 +01:00", "2262-04-11 23:47:16"] {
+        assert!(read_line(&until(end)).is_ok(), "{end}");
+    }
+}
+
+#[test]
+fn a_suppression_that_ends_before_it_begins_is_kept_as_its_bytes() {
+    for (time, end) in [(0, 0), (1, 0), (i64::MAX, i64::MIN)] {
+        let call = SuppressUntil::new(Time(time), Time(end), "a", "p").call().as_bytes().to_vec();
+        let list = List { limits: LIMITS, answer: None, calls: vec![call] };
+        let written = write(&list, Zone::default(), false);
+        assert!(written.ends_with(" # refused: 34: the suppression's end is not later than the call's time\n"), "{written}");
+        assert!(written.lines().nth(1).is_some_and(|line| line.starts_with("raw 0d")), "{written}");
+        assert_eq!(read(&written), Ok(list));
+    }
 }
 
 /// The line of a raise with a text as it is written. A text in quotes begins in column 91, behind the quote.
