@@ -35,7 +35,7 @@ DAMAGES = {
     ],
     (layout, "slots fill 1,536 bytes"): [
         ("the spare too short", PAGE, r"\| spare \| 1464 \| 72 \|", "| spare | 1464 | 71 |"),
-        ("a gap in the reserved room", PAGE, r"\| reserved: end \| 1456 .*\n", ""),
+        ("a gap before the spare", PAGE, r"\| spare \| 1464 \| 72 \|", "| spare | 1465 | 71 |"),
         ("two slots overlap", JSON, r'"reason": \{"len": \[377', '"reason": {"len": [376'),
         ("a slot on the next index", JSON, r'"action": 4', '"action": 3'),
     ],
@@ -74,6 +74,7 @@ DAMAGES = {
         ("an offset in layout.json", JSON, r'"queue": 411', '"queue": 410'),
         ("an offset in the header", HEADER, r"(ALARM_EVENT_REASON +)379u", r"\g<1>378u"),
         ("the offset of the raises", HEADER, r"(ALARM_RECORD_RAISES +)1451u", r"\g<1>1450u"),
+        ("the offset of the end", HEADER, r"(ALARM_RECORD_END +)1456u", r"\g<1>1455u"),
         ("a constant left out", HEADER, r"^#define ALARM_RECORD_KEY .*\n", ""),
         ("a constant too many", HEADER, r"^#define ALARM_RECORD_KEY .*\n", r"\g<0>#define ALARM_RECORD_COLOUR 5u\n"),
     ],
@@ -85,6 +86,12 @@ DAMAGES = {
         ("the offset of the raises", HEADER, r"(ALARM_RECORD_RAISES +)1451u", r"\g<1>1452u"),
         ("two bytes exchanged", HEADER, r"raises\[1\] << 16 \| \(uint32_t\)raises\[2\]", "raises[2] << 16 | (uint32_t)raises[1]"),
         ("a reader that warns where it is not used", HEADER, r"^static inline (uint32_t alarm_record_raises)", r"static \1"),
+    ],
+    (header, "ends are read"): [
+        ("the offset of the option byte", HEADER, r"(ALARM_RECORD_END_PRESENT +)1455u", r"\g<1>1456u"),
+        ("the offset of the end", HEADER, r"(ALARM_RECORD_END +)1456u", r"\g<1>1455u"),
+        ("a byte left out", HEADER, r"i < 8; i\+\+", "i < 7; i++"),
+        ("times before 1970 one too late", HEADER, r"UINT64_MAX - time\) - 1", "UINT64_MAX - time)"),
     ],
     (header, "numbers are those of docs/NUMBERS.md"): [
         ("a number on the page", TABLE, r"^\| 31 ", "| 32 "),

@@ -14,6 +14,7 @@ import characters
 import times
 import reaches
 import recounts
+import until
 from checklist import HERE, Skip, run
 from program import DAY, MONTH, PAGE_WIDTH, STATION, WORK, cargo, ends, ready, saved, station, too_wide, with_program, without_library, works
 
@@ -100,7 +101,7 @@ def list_faults(_root):
         ("text.calls", (HERE / "examples/day.txt").read_bytes(), "make the list with `station write`"),
         ("head.calls", whole[:20], "cut off inside its first 28 bytes"),
         ("call.calls", whole[:100], "cut off inside call 1"),
-        ("mark.calls", whole[:-8], "cut off after call 30: the end mark is missing"),
+        ("mark.calls", whole[:-8], "cut off after call 32: the end mark is missing"),
         ("count.calls", whole[:-1], "cut off inside the end mark"),
         ("more.calls", whole + b"\0", "1 bytes follow the end mark"),
         ("version.calls", whole[:8] + b"\0\0\0\2" + whole[12:], "a list of version 2"),
@@ -280,6 +281,7 @@ USES = {
     **recounts.CHECKS,
     **times.CHECKS,
     **characters.CHECKS,
+    **until.CHECKS,
     **reaches.CHECKS,
     "twins are the same": twins,
     "registers are checked": checked,

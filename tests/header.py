@@ -17,7 +17,8 @@ PROGRAM, PRINTED = "examples/cabinet.c", "examples/cabinet.out"
 LIBRARY = "target/staticlib/libstation.a"
 WARNINGS = ["-Wall", "-Wextra", "-Werror", "-pedantic"]
 C, CPP = ("gcc", "-x", "c", "-std=c99"), ("g++", "-x", "c++", "-std=c++11")
-# Programs that need no library: one uses nothing of the header, one reads raises of which all four bytes differ.
+# Programs that need no library: one uses nothing of the header, one reads raises of which all four bytes differ, and one reads ends: none,
+# one of which all eight bytes differ, the first and the last time, and the times around 1970.
 NOTHING = '#include "alarm_register.h"\n\nint main(void)\n{\n    return 0;\n}\n'
 RAISES = r"""#include <stdio.h>
 #include "alarm_register.h"
@@ -33,6 +34,29 @@ int main(void)
     return 0;
 }
 """
+ENDS = r"""#include <stdio.h>
+#include <string.h>
+#include "alarm_register.h"
+
+int main(void)
+{
+    static const char *const times[] = {"\x12\x34\x56\x78\x9a\xbc\xde\xf0", "\x80\0\0\0\0\0\0\0", "\x7f\xff\xff\xff\xff\xff\xff\xff",
+                                        "\xff\xff\xff\xff\xff\xff\xff\xff", "\0\0\0\0\0\0\0\0"};
+    uint8_t record[ALARM_RECORD_WIDTH] = {0};
+    int64_t end = 7;
+    size_t i;
+    printf("%d %lld\n", alarm_record_end(record, &end), (long long)end);
+    record[1455] = 1;
+    for (i = 0; i < sizeof times / sizeof *times; i++) {
+        int there;
+        memcpy(record + 1456, times[i], 8);
+        there = alarm_record_end(record, &end);
+        printf("%d %lld\n", there, (long long)end);
+    }
+    return 0;
+}
+"""
+ENDS_READ = "".join(f"{there} {end}\n" for there, end in ((0, 7), (1, 0x123456789ABCDEF0), (1, -2**63), (1, 2**63 - 1), (1, -1), (1, 0)))
 
 # The header's limits of strings, and the fields of docs/LAYOUT.md that have these rooms. A denial is in no record.
 LONGEST = {
@@ -156,12 +180,19 @@ def raises(root):
         yield from compiled(root, compiler, RAISES, "f2345678\n")
 
 
+def ends(root):
+    """The end of a suppression is read from its option byte and its eight bytes, in C and in C++."""
+    for compiler in (C, CPP):
+        yield from compiled(root, compiler, ENDS, ENDS_READ)
+
+
 CHECKS = {
     "offsets are the layout's": layout,
     "limits of strings are the layout's": longest,
     "one limit of code points": code_points,
     "numbers are those of docs/NUMBERS.md": numbers,
     "raises are read": raises,
+    "ends are read": ends,
     "a cabinet's program in C": cabinet(C),
     "the same program in C++": cabinet(CPP),
 }

@@ -10,9 +10,9 @@ from checklist import HERE
 from program import DAY, PAGE_WIDTH, WORK, ends, saved, too_wide, works
 
 SEVERITIES = ("cleared", "indeterminate", "warning", "minor", "major", "critical")
-# Calls by their answer, and expired alarms.
+# Calls by their answer, and expired and lifted alarms.
 BY_ANSWER = ("raised", "updated", "cleared", "clear without active", "active limit exceeded", "suppressed", "acknowledged", "unauthorized",
-             "audit failed", "not found", "expired")
+             "audit failed", "not found", "expired", "lifted")
 # The day's raises, each with the answered policy call that is the first behind it.
 DAY_RAISES = {**dict.fromkeys((1, 3, 4, 5, 6, 7, 10, 11), 13), **dict.fromkeys((17, 18), 19), **dict.fromkeys((20, 22, 23), None)}
 RAISE = "2026-03-14 09:0{} raise id={} type=t severity={} cause=lease-lost object=tenant({})".format

@@ -18,10 +18,10 @@ def recounted(_root):
     out = works("recount", "target/desk/month.calls", "--against", "examples/second-case/report.csv", status=1).decode()
     if out != (HERE / "examples/second-case/recount").read_text(encoding="utf-8"):
         yield "examples/second-case/recount is not what `station recount` prints"
-    if b"Equal: the 43 figures of examples/day.csv" not in works("recount", DAY, "--against", "examples/day.csv"):
+    if b"Equal: the 44 figures of examples/day.csv" not in works("recount", DAY, "--against", "examples/day.csv"):
         yield "the day's report is not equal to its calls"
     true = works("recount", MONTH, "--csv").decode()
-    if b"Equal: the 29 figures" not in works("recount", MONTH, "--against", saved("true.csv", true)):
+    if b"Equal: the 30 figures" not in works("recount", MONTH, "--against", saved("true.csv", true)):
         yield "a list's own figures are not equal to it"
     works("recount", MONTH, "--against", saved("semicolons.csv", true.replace(",", ";")))
     spoilt = json.loads(works("recount", MONTH, "--against", saved("spoilt.csv", true.replace("updated,3324", "updated,3325")), "--json", status=1))
@@ -143,7 +143,7 @@ def unbalanced(_root):
 
 def left_out(_root):
     """What a report leaves out is 0 in its balance; with --partial it is not claimed, and nothing fails for it."""
-    part = report({"active at end": 2, "calls": 30})
+    part = report({"active at end": 2, "calls": 32})
     words = ["recount", DAY, "--against", "-"]
     page = works(*words, "--partial", given=part).decode()
     line = "Balance of standard input, not claimed: raised left out, active at end 2, cleared left out, expired left out."
@@ -156,7 +156,7 @@ def left_out(_root):
     whole = json.loads(tells(1, said, *words, "--json", given=part))
     if whole["balance"]["report"] != entry(0, 2, 0, 0, False):
         yield f"what is left out is not 0: {whole['balance']}"
-    page = works(*words, given=report({"calls": 30}), status=1).decode()
+    page = works(*words, given=report({"calls": 32}), status=1).decode()
     if " ".join(page.splitlines()[-2:]) != f"Balance of standard input: {equation(*['0 (left out)'] * 4)}":
         yield f"a report without the four figures ends with {page[-200:]}"
 

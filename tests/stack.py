@@ -27,7 +27,7 @@ from reading import LONGEST, MOST_CODE_POINTS, NAMES, OPERATIONS
 LIMIT = int(re.search(r"needs \d+ KiB \(([\d,]+) bytes\) of stack", (HERE / HEADER).read_text(encoding="utf-8")).group(1).replace(",", ""))
 PROGRAM = HERE / "tests/stack.c"
 CODE_POINTS = MOST_CODE_POINTS["text"]  # of a raise
-OPENING, OTHER = 0, 13  # beside the operations 1 to 12
+OPENING, OTHER = 0, 255  # beside the operations
 PAIRS = "pairs of severity and cause"
 TITLES = {OPENING: "opening", **{op: f"{op} {name}" for op, (name, _) in OPERATIONS.items()}, OTHER: "calls without an operation"}
 ANSWERS, REFUSALS = {(0, code) for code in range(1, 12)}, {(number, 0) for number in refusals(HERE)}
