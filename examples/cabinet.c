@@ -1,5 +1,6 @@
 /*
- * A cabinet's program in C: opens a register, raises an alarm twice, asks for the summary, and is refused once.
+ * A cabinet's program in C: opens a register, raises an alarm twice, suppresses it until a time and lifts that, asks for
+ * the summary, and is refused once.
  *
  *     gcc -Iinclude examples/cabinet.c target/staticlib/libstation.a -o cabinet
  */
@@ -59,6 +60,43 @@ static void put_trip(struct call *call, uint64_t seconds, const char *cause)
     put_number(call, 0, 1); /* no details */
 }
 
+/* A suppression of the trip from one time until another, both in seconds from 1970. */
+static void put_suppression(struct call *call, uint64_t seconds, uint64_t end)
+{
+    call->length = 0;
+    put_number(call, ALARM_OP_SUPPRESS_UNTIL, 1);
+    put_number(call, seconds * 1000000000u, 8);
+    put_number(call, end * 1000000000u, 8);
+    put_string(call, "A-1");
+    put_string(call, "rope-crew");
+    put_number(call, 0, 1); /* no tenant */
+    put_string(call, "converter replaced");
+    put_number(call, ALARM_SCOPE_GLOBAL, 1);
+    put_number(call, 0, 1); /* no correlation */
+    put_number(call, 1, 1); /* critical alarms are allowed */
+    put_number(call, 1, 1); /* authorised */
+    put_string(call, "");
+}
+
+/* Suppresses the trip for a job of an hour, and lifts what has ended a minute behind its end. */
+static void job(uint64_t seconds)
+{
+    struct call call;
+    uint64_t length;
+    int64_t end = 0;
+    uint32_t number;
+    put_suppression(&call, seconds, seconds + 3600);
+    number = alarm_step(reg, sizeof reg, call.bytes, call.length, answer, sizeof answer, &length);
+    if (alarm_record_end(answer + ALARM_HEAD_WIDTH, &end))
+        printf("suppressed: %u, until second %lu\n", (unsigned)number, (unsigned long)(end / 1000000000));
+
+    call.length = 0;
+    put_number(&call, ALARM_OP_LIFT, 1);
+    put_number(&call, (seconds + 3660) * 1000000000u, 8);
+    number = alarm_step(reg, sizeof reg, call.bytes, call.length, answer, sizeof answer, &length);
+    printf("lifted: %u, %u alarm\n", (unsigned)number, (unsigned)number_at(answer + ALARM_HEAD_NUMBER, 8));
+}
+
 int main(void)
 {
     struct call call;
@@ -75,6 +113,8 @@ int main(void)
     number = alarm_step(reg, sizeof reg, call.bytes, call.length, answer, sizeof answer, &length);
     printf("again: %u, code %u, raised %lu times\n", (unsigned)number, (unsigned)answer[ALARM_HEAD_CODE],
            (unsigned long)alarm_record_raises(answer + ALARM_HEAD_WIDTH));
+
+    job(1773486000u);
 
     put_trip(&call, 1773483464u, "drive tripped");
     number = alarm_step(reg, sizeof reg, call.bytes, call.length, answer, sizeof answer, &length);
