@@ -174,7 +174,7 @@ def policies(_root):
     said = "From call 2 on nothing is bounded: it is a policy call behind call 1, and was answered; a critical severity may stop a suppression."
     if said not in out or " bound │" in out or "│ bound" in out:
         yield f"the page with a policy call is {out}"
-    for lines, at, active in (((critical, refused, EXPIRE), 1, 0), ((critical, "raw 05", "raw 06", EXPIRE), 1, 0),
+    for lines, at, active in (((critical, refused, EXPIRE), 1, 0), ((critical, "raw 05", "raw 06", "raw 0d", EXPIRE), 1, 0),
                               ((RAISE(0, "a", "minor", "a"), POLICY, RAISE(3, "b", "critical", "b"), EXPIRE), 3, 2)):
         got = reached(listed(*lines), at, "major")
         yield from expected(got, "active at end", active, active, "equal")

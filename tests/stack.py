@@ -55,14 +55,15 @@ def day(values, events):
     ids = [b"%d" % i + values["id"][1:] for i in range(4)]
 
     def send(op, i=0, **others):
-        return call(op, **values | {"id": ids[i], "type": ids[i], "severity": i + 2} | others)
+        return call(op, **values | {"id": ids[i], "type": ids[i], "severity": i + 2, "end": 1} | others)
 
     calls = [send(1), send(1), send(1, severity=5), send(1, 1, id=ids[0]), send(1, 1), send(1, 2), send(1, 3), send(2, 3)]
     calls += [send(1, text=b"x" * (CODE_POINTS + 1))]
     calls += [send(op, i, authorised=flag) for op in (3, 4) for i in (0, 3) for flag in (0, 1)]
-    policies = [(op, i, flags) for op in (5, 6) for i in (0, 1, 3) for flags in ((1, 1), (1, 0), (0, 1), (0, 0))]
+    policies = [(op, i, flags) for op in (5, 6, 13) for i in (0, 1, 3) for flags in ((1, 1), (1, 0), (0, 1), (0, 0))]
     calls += [send(op, i, critical_allowed=allowed, authorised=authorised) for op, i, (allowed, authorised) in policies]
-    calls += [send(12, n=n) for n in (0, 1, 65535)]
+    calls += [send(13, end=0), *(send(12, n=n) for n in (0, 1, 65535))]
+    calls += [send(13, critical_allowed=1), send(13, 1, end=2), *(send(14, time=time) for time in (0, 2, 2)), send(12, n=65535)]
     calls += [send(8, severity_or_all=severity) for severity in (255, 2, 5, 0)]
     calls += [call(9, tenant=tenant, slice=slice_) for tenant in (None, values["tenant"], b"z") for slice_ in (None, values["slice"], b"z")]
     calls += [send(10), send(11), send(7, time=-1), send(2), send(2), send(7, time=9), send(7, time=9), send(11), b""]

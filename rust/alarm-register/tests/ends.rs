@@ -108,7 +108,7 @@ fn what_keeps_an_end_and_what_removes_it() {
     let suppressed = |end| Some((State::Suppressed, end));
     let kept = suppressed(Some(Time(90)));
     let policy = PolicyAction::suppress(Time(30), "a", "crew");
-    let cases: [(Call<'_>, Option<(State, Option<Time>)>); 11] = [
+    let cases = [
         (Call::Raise(raise(99, "c", TENANT_A)), kept),
         (Call::Raise(Raise { severity: Severity::Critical, ..raise(30, "c", TENANT_A) }), kept),
         (Call::Plain(PlainAction::acknowledge(Time(30), "a")), kept),
