@@ -109,7 +109,7 @@ RAISES = {
     "33 at the active limit": refused_before("code 5"),
     "33 before 31": refused_before("31"),
     "33 before 30": refused_before("30"),
-    "33 before bytes left over": refused_before("24 at end"),
+    "33 before bytes left over": refused_before("24 at left over"),
     "33 before an end within the details": refused_before("24 at details?"),
     "33 before a wrong byte of the details": refused_before("25 at details?"),
     "33 before details that are too long": refused_before("26 at details?"),

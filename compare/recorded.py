@@ -55,7 +55,7 @@ def sent(value):
 def alarm_bytes(shown):
     alarm = {name: sent(value) for name, value in shown.items()}
     details = None if shown["details"] is None else bytes.fromhex(shown["details"])
-    return alarm_record(alarm | {"key": bytes.fromhex(shown["key"]), "details": details})
+    return alarm_record(alarm | {"key": bytes.fromhex(shown["key"]), "details": details, "end": None})
 
 
 def event_bytes(shown):
