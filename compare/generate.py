@@ -265,13 +265,15 @@ def tight_report(rng, severities):
 def one_severity(rng, count):
     """A list from opening or on a forged register, and the same with another severity in an early raise; no second one without a raise.
 
-    At times the alarm is raised just so directly before and behind: history then has one entry of these in one list, and more in the other.
+    At times the alarm is raised just so directly before and behind: history then has one entry of these in one list, and more in the other. In
+    lists with operations 13 and 14 an alarm of its own is suppressed until the latest time, which may have come directly behind the raise.
     """
     given = rng.randint(1, 4), rng.randint(1, 12), rng.randint(1, 3)
     start = opened(given) if rng.random() < 0.75 else Given(bytes(forged(rng, *given)))
     timed = isinstance(start, Given) or rng.random() < 0.3
-    orders = [start, *steps(rng, count, ample(given), (named_values, named_values, plain_values), timed)]
-    places = reach.raises(orders)
+    until = [Step(call(op, id=b"u", type=b"u", end=max(TIMES)), 1552) for op in (1, SUPPRESS_UNTIL)] if timed else []
+    orders = [start, *until, *steps(rng, count, ample(given), (named_values, named_values, plain_values), timed)]
+    places = [place for place in reach.raises(orders) if place > len(until)]
     if not places:
         return orders, None
     place = rng.choice(places[:4])
@@ -279,7 +281,8 @@ def one_severity(rng, count):
     severity = raised.call[reach.severity_at(raised.call)]
     other = (severity + rng.randint(1, 5)) % 6
     before = orders[:place] + [raised] * rng.randrange(2)
-    behind = [raised] * rng.randrange(2) + [refused_policy(rng, order) for order in orders[place + 1:]]
+    lifts = [Step(call(LIFT, time=max(TIMES)), 1552)] * (timed and rng.randrange(2))
+    behind = lifts + [raised] * rng.randrange(2) + [refused_policy(rng, order) for order in orders[place + 1:]]
     for at in range(0, len(behind), 4):
         behind.insert(at, tight_report(rng, (severity, other)))
     orders = [*before, raised, *behind]
