@@ -114,7 +114,7 @@ def room(rng, most):
 def timed_call(rng, fields):
     """A suppression until a time that is beside the call's, or a lift."""
     if rng.random() < 0.4:
-        return call(LIFT, time=rng.choice(TIMES))
+        return call(LIFT, time=rng.choice([0, 1, 2, 3, 4, *TIMES]))
     time = fields["time"]
     end = rng.choice([time - 1, time, time + 1, time + 1, time + 2, time + 3, time + 100, rng.choice(TIMES)])
     return call(SUPPRESS_UNTIL, **fields | dict(end=end, authorised=rng.random() < 0.9))

@@ -64,7 +64,7 @@ LIFTS = {
     "updated_at goes back": goes_back,
     "another order than that of the ends": other_order,
     "an end that has come left in history": in_history,
-    "an alarm that was raised meanwhile": lambda lift: any(alarm["updated_at"] > alarm["end"] for alarm in lift.lifted),
+    "updated_at after its end": lambda lift: any(alarm["updated_at"] > alarm["end"] for alarm in lift.lifted),
 }
 
 

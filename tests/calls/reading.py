@@ -142,6 +142,11 @@ def signed(n):
     return n - 2 ** 64 if n >= 2 ** 63 else n
 
 
+def is_later(end, time):
+    """Whether an end is later than a time, both as the numbers of their bytes."""
+    return signed(end) > signed(time)
+
+
 class Call:
     """The bytes of a call, the place in them, and the field that is being read."""
 
@@ -222,7 +227,7 @@ class Call:
         if self.at < len(self.data):
             self.refuse(24)
         self.field = "end"
-        if "end" in values and signed(values["end"]) <= signed(values["time"]):
+        if "end" in values and not is_later(values["end"], values["time"]):
             self.refuse(34)  # "after all field checks" (M-105)
         return op, values
 
