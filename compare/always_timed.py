@@ -32,19 +32,27 @@ ACTS = [call(1), call(1, time=2), call(1, time=5, severity=5, text=b"x"), call(3
 FORMER = [[call(1)], [call(1), call(1)], [call(1), call(3)], [call(1), call(4)], [call(1), call(6)], [call(1, time=5)], [call(1), call(1, time=5)]]
 
 
-def listed(limits, calls):
-    """The calls, with lists of alarms and of history behind each."""
-    sent = [data for each in calls for data in (each, call(8), call(9))]
-    return [opened(limits), *(Step(data, ample(limits), 0xA5) for data in sent)]
+def made(limits, calls):
+    return [opened(limits), *(Step(data, ample(limits), 0xA5) for data in calls)]
+
+
+def with_reports(orders):
+    """The list with all alarms and all of history behind each call."""
+    reports = [Step(call(op), ample(orders[0].limits), 0xA5) for op in (8, 9)]
+    return orders[:1] + [order for each in orders[1:] for order in (each, *reports)]
 
 
 def ends():
+    return map(with_reports, ends_bare())
+
+
+def ends_bare():
     """One alarm that is suppressed until a time, and what may come before and after; with lifts around the end."""
     for act in ACTS:
         for limits in ((2, 3, 2), (2, 3, 1)):
-            yield listed(limits, [call(1), until(2), act, lift(1), lift(2), lift(3), call(1)])
+            yield made(limits, [call(1), until(2), act, lift(1), lift(2), lift(3), call(1)])
     for former, cutoff in itertools.product(FORMER, (0, 1, 2, 3)):
-        yield listed((2, 4, 2), [*former, until(2), lift(cutoff), call(11), call(12, n=9)])
+        yield made((2, 4, 2), [*former, until(2), lift(cutoff), call(11), call(12, n=9)])
     yield from several()
     yield from gates()
     yield from refusals()
@@ -54,20 +62,20 @@ def several():
     """Alarms whose ends come in another order, one without an end among them; room for fewer entries than are lifted."""
     alarms = [dict(id=name, object=(6, name)) for name in (b"a", b"b", b"c", b"d")]
     calls = [*(call(1, **alarm) for alarm in alarms), until(3), call(4, id=b"b"), until(1, id=b"c"), until(2, id=b"d")]
-    for cutoffs, history in itertools.product(([0, 1, 2, 3], [3], [2, LATEST], [-1, 9]), (1, 2, 12)):
-        yield listed((4, history, 4), calls + [lift(cutoff) for cutoff in cutoffs])
-    yield listed((2, 3, 2), [call(1), until(1), call(2), lift(1), call(1), until(1), call(7, time=1), lift(1), call(1), lift(1)])
-    yield listed((2, 3, 2), [call(1), call(1), until(1), lift(1), call(1), lift(1)])
+    for cutoffs, history in itertools.product(([0, 1, 2, 3], [3], [2, LATEST], [-1, 9]), (1, 2, 5)):
+        yield made((4, history, 3), calls + [lift(cutoff) for cutoff in cutoffs])
+    yield made((2, 3, 2), [call(1), until(1), call(2), lift(1), call(1), until(1), call(7, time=1), lift(1), call(1), lift(1)])
+    yield made((2, 3, 2), [call(1), call(1), until(1), lift(1), call(1), lift(1)])
 
 
 def gates():
     """The critical gate, authorisation and a full audit chain, before and behind an end."""
     for values in (CRITICAL, PROTECTED, CRITICAL | PROTECTED):
         for allowed in ({}, ALLOWED):
-            yield listed((2, 3, 2), [call(1, **values), until(1, **allowed), until(2, authorised=0, **allowed), lift(2), call(12, n=9)])
+            yield made((2, 3, 2), [call(1, **values), until(1, **allowed), until(2, authorised=0, **allowed), lift(2), call(12, n=9)])
     full = [call(1), until(1), until(2), call(6), call(5), until(2, authorised=0), call(11), lift(0), lift(1), call(12, n=1), until(3), call(5)]
-    yield listed((2, 3, 1), full)
-    yield listed((2, 3, 1), [call(1, time=2), until(1), lift(1), call(12, n=1), until(1, time=-1), call(1, time=7), lift(1)])
+    yield made((2, 3, 1), full)
+    yield made((2, 3, 1), [call(1, time=2), until(1), lift(1), call(12, n=1), until(1, time=-1), call(1, time=7), lift(1)])
 
 
 def refusals():
@@ -79,7 +87,7 @@ def refusals():
     calls += [same + b"\0", until(1) + b"\0", same[:-1], same[:17], until(0, denial=b"\xff"), until(0, id=b"i" * 65), until(0, authorised=2),
               until(0, critical_allowed=2), until(1, authorised=2), b"\x0d", b"\x0e", b"\x0f", lift(0) + b"\0", lift(0)[:-1]]
     for start in ([], [call(1)]):
-        orders = listed((2, 3, 9), start + calls)
+        orders = made((2, 3, 7), start + calls)
         yield orders + [Step(data, 1551, 0xA5) for data in (until(0), until(1), until(1) + b"\0", lift(0), lift(9))]
 
 

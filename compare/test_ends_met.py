@@ -198,9 +198,10 @@ def for_rust(_root):
     for _ in range(60):
         if not for_the_rust(generate.fresh(rng, 100)):
             yield "a list by chance without operations 13 and 14 has one"
-    for lists, timed_ in ((always.every_call, False), (always_timed.every_call, True), (always_timed.ends, True), (always.short_lists, False)):
-        if any(for_the_rust(orders) == timed_ for orders in lists()):
-            yield f"{lists}: lists for the Rust and lists not for it"
+    for_it = always.every_call, always.short_lists, always.headlines, always.texts
+    for lists in (*for_it, always_timed.every_call, always_timed.ends):
+        if any(for_the_rust(orders) != (lists in for_it) for orders in lists()):
+            yield f"{lists}: not all of them are {'' if lists in for_it else 'not '}for the Rust"
     odd = generate.odd_calls(False), generate.odd_calls(True)
     if [any(map(is_timed, calls)) for calls in odd] != [False, True] or not all(map(is_timed, odd[1])):
         yield "the calls of tests/ are not divided by their operation"

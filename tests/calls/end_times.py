@@ -1,5 +1,5 @@
 """End times beside the call's time (document 02, M-105: 34 for an end that is not later), and calls of operation 13 with them."""
-from fields import joined, pieces, time
+from fields import joined, pieces, string, time
 
 UNTIL = 13  # the operation
 EARLIEST, LATEST = -2**63, 2**63 - 1
@@ -35,5 +35,11 @@ def other_faults():
         yield from (whole[:-1], whole + b"\0", whole + b"\xff\xff", whole + whole)
 
 
+def long_strings():
+    """A reason and a denial of more than 120 code points, which only a raise's text may not have."""
+    for field, limit in (("reason", 256), ("denial", 128)):
+        yield from (joined(UNTIL, {field: string(b"x" * n)}) for n in (120, 121, limit))
+
+
 def calls():
-    return [*(until(t, end) for t, end in pairs()), *other_faults()]
+    return [*(until(t, end) for t, end in pairs()), *other_faults(), *long_strings()]
