@@ -25,8 +25,8 @@ def lift(cutoff):
 every_call = functools.partial(always.every_call, True)
 
 # what may become of an alarm that is suppressed at 0 until 2
-ACTS = [call(1), call(1, time=2), call(1, time=5, severity=5, text=b"x"), call(3), call(4), call(5), call(6), call(3, time=9), call(2), call(7, time=1),
-        call(7, time=9), call(3, authorised=0), call(4, authorised=0), call(5, authorised=0), call(6, authorised=0), until(9, authorised=0),
+ACTS = [call(1), call(1, time=2), call(1, time=5, severity=5, text=b"x"), call(3), call(4), call(5), call(6), call(3, time=9), call(2),
+        call(7, time=1), call(7, time=9), *(call(op, authorised=0) for op in (3, 4, 5, 6)), until(9, authorised=0),
         until(1), until(2), until(3), until(3, time=2), until(3, time=9), call(1, **B), until(1, id=b"x")]
 # what an alarm may be before that; the last raise comes from a clock that goes back
 FORMER = [[call(1)], [call(1), call(1)], [call(1), call(3)], [call(1), call(4)], [call(1), call(6)], [call(1, time=5)], [call(1), call(1, time=5)]]
@@ -112,7 +112,8 @@ def given(alarm, entry, calls):
 
 def doubled():
     """Two active alarms with equal fields and two ends: one entry for both."""
-    return [always.doubled(dict(state=3, end=1), dict(state=3, end=2, raises=7)), *(Step(data, ample((2, 3, 1)), 0xA5) for data in (lift(2), call(9)))]
+    start = always.doubled(dict(state=3, end=1), dict(state=3, end=2, raises=7))
+    return [start, *(Step(data, ample((2, 3, 1)), 0xA5) for data in (lift(2), call(9)))]
 
 
 # ---- all short lists

@@ -54,7 +54,8 @@ def holding(alarm, entry):
 
 def given_list():
     """Registers that hold ends in states that may have none, wrong bytes of ends, and alarms that are lifted into one entry."""
-    orders = [order for state in range(6) for order in (holding(dict(state=state, end=1), {}), step(10), holding({}, dict(state=state, end=1)), step(10))]
+    timed_ = [dict(state=state, end=1) for state in range(6)]
+    orders = [order for fields in timed_ for start in (holding(fields, {}), holding({}, fields)) for order in (start, step(10))]
     for place, value in ((1455, 2), (1463, 1)):
         for index in (1, 2):
             register = bytearray(holding(dict(state=3), dict(state=3)).register)
@@ -173,7 +174,7 @@ def unmet(_root):
 # ---- lists by chance, and the Rust
 
 # what chance seldom comes to, and lists of every run have
-SELDOM = ["the same end again", "34 before 30", LIFTED.format("another order than that of the ends"), LIFTED.format("30"), "raised with another severity"]
+SELDOM = ["the same end again", "34 before 30", "raised with another severity", *map(LIFTED.format, ("another order than that of the ends", "30"))]
 
 
 def by_chance(_root):

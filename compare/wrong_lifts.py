@@ -13,7 +13,7 @@ from register import Register
 from timed import LIFT
 from wrong_raises import CHANGE, REMEMBER, replaced
 
-IS_DUE, IS_OF_CHAIN = model.is_due, soundness.is_of_chain
+IS_DUE, IS_OF_CHAIN, ALARM = model.is_due, soundness.is_of_chain, Register.alarm
 PRESENT, AT = LAYOUT["alarm"]["end"]["present"], LAYOUT["alarm"]["end"]["at"]
 
 
@@ -46,6 +46,10 @@ def with_time(updated_at):
 
 def with_fields(**fields):
     return lifting(changed=lambda alarm, cutoff: right(alarm, cutoff) | fields)
+
+
+def is_untimed_or_due(alarm, cutoff):
+    return alarm["state"] == SUPPRESSED and (alarm["end"] is None or alarm["end"] <= cutoff)
 
 
 def unsigned(n):
@@ -96,9 +100,8 @@ def only_in_history():
 def always_added():
     """A lift adds an entry even where the newest is like it."""
     def lift(register_, op, call):
-        with replaced(register, "SAME", ("no such entry",)), replaced(Register, "alarm", lambda self, index: alarm(self, index) | {"no such entry": index}):
+        with replaced(register, "SAME", ("index",)), replaced(Register, "alarm", lambda self, index: ALARM(self, index) | {"index": index}):
             return model.lift(register_, op, call)
-    alarm = Register.alarm
     return replaced(model, "STEPS", model.STEPS | {LIFT: lift})
 
 
@@ -158,7 +161,7 @@ WRONG = {
     "lifted at sameness of end and cutoff alone": lifting(due=lambda alarm, cutoff: alarm["end"] == cutoff),
     "lifted by updated_at": lifting(due=lambda alarm, cutoff: alarm["end"] is not None and alarm["updated_at"] <= cutoff),
     "all suppressed alarms lifted": lifting(due=lambda alarm, cutoff: alarm["state"] == SUPPRESSED),
-    "suppressed alarms without an end lifted": lifting(due=lambda alarm, cutoff: IS_DUE({"end": cutoff} | {k: v for k, v in alarm.items() if v is not None}, cutoff)),
+    "suppressed alarms without an end lifted": lifting(due=is_untimed_or_due),
     "lifted to raised": with_fields(state=model.RAISED),
     "lifted to acknowledged": with_fields(state=model.ACKNOWLEDGED),
     "lifted, and the end kept": lifting(changed=lambda alarm, cutoff: right(alarm, cutoff) | {"end": alarm["end"]}),

@@ -89,7 +89,6 @@ KNOWN = [
     (until(ZERO, ZERO) + "00", "refused 24"),
     (until(ZERO, ZERO)[:-2], "refused 24"),
     (until(ZERO, ZERO)[:-4] + "ffff", "refused 27"),
-    (until(ZERO, "00000000000000")[:-2], "refused 26"),
     (f"0d {ZERO} {ZERO}", "refused 24"),
     (f"0d {ZERO} 00000000000000", "refused 24"),
     ("0d", "refused 24"),
