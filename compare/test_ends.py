@@ -158,7 +158,8 @@ def faults(_root):
     for data, room, wanted in [
         (same, 2000, 34), (same + b"\0", 2000, 24), (same[:-1], 2000, 24), (same[:17], 2000, 24), (same[:16], 2000, 24), (same, 1551, 34),
         (same, 0, 34), (later, 1551, 30), (call(13, id=b"x"), 1551, 30), (later + b"\0", 1551, 24), (later, 1552, 0),
-        (call(13, end=0, denial=b"\xff"), 2000, 27), (call(13, end=0, id=b"i" * 65), 2000, 26), (call(13, end=0, authorised=2), 2000, 25), (call(13, end=0, scope=(3,)), 2000, 25),
+        (call(13, end=0, denial=b"\xff"), 2000, 27), (call(13, end=0, id=b"i" * 65), 2000, 26),
+        (call(13, end=0, authorised=2), 2000, 25), (call(13, end=0, scope=(3,)), 2000, 25),
         (call(13, end=0, reason=b"x" * 256), 2000, 34), (call(13, reason=b"x" * 256), 2000, 0), (cutoff, 1551, 30), (cutoff, 16, 30),
         (cutoff, 1552, 0), (cutoff + b"\0", 0, 24), (cutoff[:-1], 2000, 24), (b"\x0d", 2000, 24), (b"\x0e", 2000, 24), (b"\x0f", 2000, 23),
     ]:
