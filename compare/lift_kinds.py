@@ -13,8 +13,8 @@ NO_END = bytes(9)  # the option byte and the time
 # ---- lifts
 
 class Lift(NamedTuple):
-    """An answered lift: its cutoff and number; the alarms that it lifted, and those with an end and those without that it left suppressed; what
-    the register held before it, and whether history then was full."""
+    """An answered lift: its cutoff and number; the alarms that were due, and those with a later end and without one; what the register held
+    before and after it."""
     cutoff: int
     told: int
     lifted: list

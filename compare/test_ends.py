@@ -3,6 +3,7 @@ and whether these tell wrong ways from the right one. compare/test_differential.
 place."""
 import always
 import model
+import twins as law
 import wrong_ends
 import wrong_lifts
 from calls import call
@@ -11,7 +12,7 @@ from orders import Step
 from records import LAYOUT, WIDTH, alarm_record, put
 from test_model import RB, Station, after, unlike
 from timed import EARLIEST, LATEST
-from twins import differ
+from wrong_raises import replaced
 
 RAISE, RAISE_B, CLEAR = (1, {}), (1, RB), (2, {})
 ACKNOWLEDGE, SUPPRESS, BY_POLICY, SUPPRESS_BY_POLICY = (3, {}), (4, {}), (5, {}), (6, {})
@@ -253,8 +254,16 @@ def twins(_root):
             changed = bytearray(getattr(outcome, place))
             for byte, data in changes.items():
                 put(changed, start + byte, data)
-            found = differ(order, outcome, outcome._replace(**{place: changed}))
+            found = law.differ(order, outcome, outcome._replace(**{place: changed}))
             yield from unlike(place, found, f"twins: {place}s differ outside text and details")
+    for data in (call(13, end=2), call(13, time=-1), call(14)):
+        yield from unlike(f"{data.hex()} beside another", law.are_twins(Step(call(13), 1552), Step(data, 1552)), False)
+
+
+def masked(_root):
+    """An end that is masked as texts are would be noticed."""
+    if not told(twins, lambda: replaced(law, "MASKED", law.MASKED | {"end": None})):
+        yield "is not noticed"
 
 
 # ---- wrong ways
@@ -294,5 +303,6 @@ CHECKS = {
     "ends: a lift and the newest entry": sameness,
     "ends: which are sound": sound,
     "ends: twins": twins,
+    "ends: a mask that is too wide": masked,
     "ends: wrong ways": ways,
 }
