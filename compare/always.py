@@ -45,6 +45,16 @@ def holding(alarm, entry):
     return Given(bytes(data))
 
 
+def doubled(*fields):
+    """A register with two active alarms of equal fields, but for those that are given for each, and no other record."""
+    data = bytearray(holding({}, {}).register)
+    alarm = alarm_of(unlinked(data, 1))
+    for index, changed in zip((1, 2), fields):
+        data[WIDTH * index + 4:WIDTH * (index + 1)] = alarm_record(alarm | changed)[4:]
+    Register(data, [[1, 2], [], [], [3, 4, 5, 6]]).link()
+    return Given(bytes(data))
+
+
 def held_raises():
     """An alarm that holds no or one raise, or almost or just the most, is left as raised, acknowledged or suppressed; it is raised twice,
     acknowledged, cleared or expired, and raised anew, with lists of alarms between."""
@@ -69,18 +79,19 @@ def texts():
 def stored_texts():
     """An alarm with a text of more than 120 code points, and an entry with another one: what each operation makes of them, with lists of alarms."""
     held = [b"x" * 121, b"x" * 256, "é".encode() * 128, long_texts.text(121, 256)]
-    acts = [*map(call, (3, 4, 5, 6, 2)), call(7, time=1), call(1, text=b"y"), call(1, text=b"y" * 120), call(1, text=long_texts.TOO_LONG)]
+    acts = [*map(call, (3, 4, 5, 6, 13, 2)), call(7, time=1), call(1, text=b"y"), call(1, text=b"y" * 120), call(1, text=long_texts.TOO_LONG)]
     for text, act in itertools.product(held, acts):
-        calls = [call(8), act, call(8), call(9)]
+        calls = [call(8), act, call(14, time=1), call(8), call(9)]
         yield [holding(dict(text=text), dict(text=b"y" * 121)), *(Step(data, ample((2, 3, 1)), 0xA5) for data in calls)]
 
 
-def every_call():
-    """The calls of tests/calls one after the other on a register that holds a few alarms, each kind of object among them."""
+def every_call(timed=False):
+    """The calls of tests/calls one after the other on a register that holds a few alarms, each kind of object among them: those of operations
+    13 and 14 or all others."""
     objects = [(kind, *(b"a", b"b", 1)[:len(parts)]) for kind, parts in OBJECTS.items()]
     room_ = ample((9, 5, 2))
     start = [opened((9, 5, 2)), *(Step(call(1, id=b"%d" % i, object=o), room_) for i, o in enumerate(objects))]
-    found = odd_calls()
+    found = odd_calls(timed)
     for at in range(0, len(found), 100):
         yield start + [Step(data, room_, 0xC3) for data in found[at:at + 100]]
 

@@ -7,6 +7,7 @@ PLAIN = {
     "time": 0, "id": b"a", "type": b"t", "severity": 3, "cause": b"lease-lost", "object": (6, b"a"), "tenant": None,
     "slice": None, "region": None, "text": b"", "details": None, "authorised": 1, "principal": b"", "reason": b"",
     "scope": (2,), "correlation": None, "critical_allowed": 0, "denial": b"no", "severity_or_all": 255, "n": 0,
+    "end": 1,
 }
 
 

@@ -14,9 +14,10 @@ from orders import Given, Open, Step
 from reading import FIELDS, Call, Refused
 from records import WIDTH, alarm_of, unlinked
 from soundness import sound_chains
+from timed import (ACKNOWLEDGE, ACKNOWLEDGE_BY_POLICY, ACTIVE, CLEAR, EXPIRE, HISTORY, LIFT, POLICY, RAISE, SUPPRESS, SUPPRESS_BY_POLICY,
+                   SUPPRESS_UNTIL)
 from twins import ALARM_CODES, ALARM_LISTS
 
-RAISE, CLEAR, ACKNOWLEDGE, SUPPRESS, ACKNOWLEDGE_BY_POLICY, SUPPRESS_BY_POLICY, EXPIRE, ACTIVE, HISTORY = range(1, 10)  # operations
 TOO_MANY = 33  # the refusal
 MOST, MOST_BYTES = 120, 256
 
@@ -109,13 +110,13 @@ RAISES = {
     "33 at the active limit": refused_before("code 5"),
     "33 before 31": refused_before("31"),
     "33 before 30": refused_before("30"),
-    "33 before bytes left over": refused_before("24 at end"),
+    "33 before bytes left over": refused_before("24 at left over"),
     "33 before an end within the details": refused_before("24 at details?"),
     "33 before a wrong byte of the details": refused_before("25 at details?"),
     "33 before details that are too long": refused_before("26 at details?"),
 }
 # fields beside the text that may have more than 120 code points, with their operations
-OTHERS = {"region": (RAISE, CLEAR), "reason": (ACKNOWLEDGE_BY_POLICY, SUPPRESS_BY_POLICY), "denial": (ACKNOWLEDGE_BY_POLICY, SUPPRESS_BY_POLICY)}
+OTHERS = {"region": (RAISE, CLEAR), "reason": POLICY, "denial": POLICY}
 LONGER = "a {} of more than 120 code points, answered"
 KINDS = [*RAISES, *map(LONGER.format, OTHERS)]
 
@@ -134,12 +135,13 @@ def call_kinds(order, outcome):
 
 class StoredCall(NamedTuple):
     """A call on a register with such texts: its operation and its refusal's number; the texts on the active and the history chain before and
-    after it; those that are answered."""
+    after it; those that are answered; whether an alarm is lifted."""
     op: int
     number: int
     before: tuple
     after: tuple
     answered: list
+    lifted: bool
 
     def leaves(self):
         """Whether the active chain has lost one."""
@@ -155,6 +157,8 @@ STORED = {
     "a longer one is suppressed": answers(SUPPRESS),
     "a longer one is acknowledged by policy": answers(ACKNOWLEDGE_BY_POLICY),
     "a longer one is suppressed by policy": answers(SUPPRESS_BY_POLICY),
+    "a longer one is suppressed until a time": answers(SUPPRESS_UNTIL),
+    "a longer one is lifted": lambda call: call.op == LIFT and call.lifted and call.before[0],
     "a longer one is cleared": lambda call: call.op == CLEAR and call.leaves(),
     "a longer one is expired": lambda call: call.op == EXPIRE and call.leaves(),
     "a longer one is replaced by an answer Updated": lambda call: call.op == RAISE and call.leaves(),
@@ -221,7 +225,7 @@ class Met:
         if not any(self.held) or outcome.number not in (0, TOO_MANY):
             return
         before, self.held = self.held, stored(outcome.register)
-        call = StoredCall(order.call[0], outcome.number, before, self.held, answered(order.call[0], outcome))
+        call = StoredCall(order.call[0], outcome.number, before, self.held, answered(order.call[0], outcome), any(outcome.answer[8:16]))
         self.tally.update(tallied(name) for name, is_of in STORED.items() if is_of(call))
 
 

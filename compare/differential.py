@@ -8,6 +8,7 @@ from typing import NamedTuple, Optional
 
 import imports  # noqa: F401  (finds the reading of calls, and the table of numbers)
 import characters
+import ends
 import headline
 import model
 import numbering
@@ -18,6 +19,7 @@ from original import Original, active_shown
 from reach import Reach
 from reading import line
 from records import ROOT, put_number
+from timed import is_timed
 from twins import Twins
 
 
@@ -151,8 +153,8 @@ def unequal(found, wanted):
 
 
 def for_the_rust(orders):
-    """Whether the Rust can follow: it has no register in bytes, and no slice to open."""
-    if any(isinstance(order, Given) for order in orders):
+    """Whether the Rust can follow: it has no register in bytes, no slice to open, and no operations 13 and 14 (M-105)."""
+    if any(isinstance(order, Given) or isinstance(order, Step) and is_timed(order.call) for order in orders):
         return False
     return all(model.open(bytearray(order.size), *order.limits) != 21 for order in orders if isinstance(order, Open))
 
@@ -195,6 +197,7 @@ def checked(case, tools, tally):
 
 # the codes that each operation's answers have
 CODES = {1: (1, 2, 5), 2: (3, 4), 3: (7, 8, 10), 4: (6, 8, 10), 5: (7, 8, 9, 10), 6: (6, 8, 9, 10)} | {op: (11,) for op in range(7, 13)}
+CODES |= {13: CODES[6], 14: (11,)}
 ANSWERS = [f"operation {op} code {code}" for op, codes in CODES.items() for code in codes]
 SUMMARIES = f"operation {headline.SUMMARY} code 11"
 
@@ -212,9 +215,9 @@ def result_name(order, outcome):
 
 
 def counted(orders, tools, tally):
-    """The outcomes, each counted by its name; of summaries, raises and texts, their kinds."""
+    """The outcomes, each counted by its name; of summaries, raises, texts and ends, their kinds."""
     by_rust = bool(tools.oracle) and for_the_rust(orders)
-    kinds = [raises.Met(tally), characters.Met(tally, by_rust)]
+    kinds = [raises.Met(tally), characters.Met(tally, by_rust), ends.Met(tally, orders)]
     for order, outcome in zip(orders, outcomes(orders, tools, tally)):
         if isinstance(order, Step):
             tally["calls"] += 1

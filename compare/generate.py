@@ -1,5 +1,5 @@
 """Lists of calls from a seed: every operation, few keys and ids, small limits, times at both ends, boundary lengths, damaged
-calls and registers, short answers."""
+calls and registers, short answers. Only timed lists have calls of operations 13 and 14 (M-105): the Rust is given the others."""
 import functools
 
 import imports  # noqa: F401  (finds the calls of tests/)
@@ -7,6 +7,8 @@ import cases
 import model
 import reach
 from calls import call
+from timed import LIFT, SUPPRESS_UNTIL, is_timed
+from headline import SUPPRESSED
 from long_texts import MOST, MOST_BYTES, letters, text
 from orders import Counters, Given, Open, Step
 from reading import NAMES, Call, Refused
@@ -28,9 +30,9 @@ OPERATIONS = [1] * 30 + [2] * 10 + [3, 4] * 4 + [5, 6] * 9 + [7] * 6 + [8, 9, 10
 
 
 @functools.cache
-def odd_calls():
-    """The calls of tests/calls, good and damaged."""
-    return cases.calls()
+def odd_calls(*timed):
+    """The calls of tests/calls, good and damaged: those of operations 13 and 14, all others, or both."""
+    return [data for data in cases.calls() if is_timed(data) in timed]
 
 
 # ---- texts: at most 120 code points in a raise (M-104), and at most 256 bytes there and in a record
@@ -109,14 +111,32 @@ def room(rng, most):
     return rng.choice([0, 15, 16, 34, 1551, 1552, 1553, edge, edge - 1, edge + 1, rng.randrange(4000)])
 
 
-def steps(rng, count, most, ways=(plain_values, plain_values, values)):
+def timed_call(rng, fields):
+    """A suppression until a time that is beside the call's, or a lift."""
+    if rng.random() < 0.4:
+        return call(LIFT, time=rng.choice([0, 1, 2, 3, 4, *TIMES]))
+    time = fields["time"]
+    end = rng.choice([time - 1, time, time + 1, time + 1, time + 2, time + 3, time + 100, rng.choice(TIMES)])
+    return call(SUPPRESS_UNTIL, **fields | dict(end=end, authorised=rng.random() < 0.9))
+
+
+def sent(rng, choose, timed):
+    """A call by chance, with values that are chosen so."""
+    chance = rng.random()
+    if chance < 0.03:
+        return rng.choice(odd_calls(False, timed))
+    data = timed_call(rng, choose()) if timed and rng.random() < 0.3 else call(rng.choice(OPERATIONS), **choose())
+    found = damaged_call(rng, data) if chance < 0.07 else data
+    return found if timed or not is_timed(found) else data
+
+
+def steps(rng, count, most, ways=(plain_values, plain_values, values), timed=False):
     """Steps by chance, their values made in one of some ways, most of them with so much room for the answer."""
     objects = rng.sample(OBJECTS_SENT, rng.choice([2, 3, 5, len(OBJECTS_SENT)]))
-    choose = rng.choice(ways)
+    choose = functools.partial(rng.choice(ways), rng, objects)
     for _ in range(count):
-        chance = rng.random()
-        data = rng.choice(odd_calls()) if chance < 0.03 else call(rng.choice(OPERATIONS), **choose(rng, objects))
-        yield Step(damaged_call(rng, data) if 0.03 < chance < 0.07 else data, room(rng, most), rng.randrange(256))
+        data = sent(rng, choose, timed)
+        yield Step(data, room(rng, most), rng.randrange(256))
 
 
 def limits(rng):
@@ -129,13 +149,13 @@ def opened(limits_, former=0xEE):
     return Open(limits_, WIDTH * (1 + sum(limits_)), former)
 
 
-def fresh(rng, count):
+def fresh(rng, count, timed=False):
     """A list from opening; at times with counters that soon wrap."""
     given = limits(rng)
     orders = [opened(given, rng.randrange(256))]
     if rng.random() < 0.1:
         orders.append(Counters(2**64 - rng.randint(1, 3), 2**64 - rng.randint(1, 3)))
-    return orders + list(steps(rng, count, ample(given)))
+    return orders + list(steps(rng, count, ample(given), timed=timed))
 
 
 def refused_opening(rng):
@@ -147,8 +167,8 @@ def refused_opening(rng):
 
 
 def forged(rng, a, h, e):
-    """A sound register that no list of calls need reach: equal ids and keys, times, states and raises of all kinds, texts of up to 256 code
-    points, any order of records."""
+    """A sound register that no list of calls need reach: equal ids and keys, times, states, raises and ends of all kinds, texts of up to 256
+    code points, any order of records."""
     order = list(range(1, 1 + a + h + e))
     rng.shuffle(order)
     data = bytearray(WIDTH * (1 + len(order)))
@@ -176,7 +196,8 @@ def forged_record(rng, chain, fields):
     key = model.key_of(fields) if rng.random() < 0.8 else bytes(16)
     state = rng.randrange(4 if chain == "active" else 6)
     raises = rng.choice([0, 1, MOST_RAISES - 1, MOST_RAISES, rng.randrange(MOST_RAISES)])
-    alarm = {"key": key, "state": state, "cleared_at": rng.choice([None, *TIMES]), "raises": raises}
+    end = rng.choice([None, *TIMES]) if state == SUPPRESSED else None
+    alarm = {"key": key, "state": state, "cleared_at": rng.choice([None, *TIMES]), "raises": raises, "end": end}
     return alarm_record(fields | times | alarm | {"text": text_within(rng, rng.choice([MOST, MOST_BYTES]))})
 
 
@@ -205,10 +226,10 @@ def from_registers(rng, count):
         given = limits(rng)
         register = forged(rng, *given)
         if rng.random() < 0.5:
-            orders += [Given(bytes(register)), *steps(rng, 8, ample(given))]
+            orders += [Given(bytes(register)), *steps(rng, 8, ample(given), timed=True)]
         else:
             for _ in range(4):
-                orders += [Given(damaged(rng, register)), *steps(rng, 2, ample(given))]
+                orders += [Given(damaged(rng, register)), *steps(rng, 2, ample(given), timed=True)]
     return orders
 
 
@@ -244,12 +265,15 @@ def tight_report(rng, severities):
 def one_severity(rng, count):
     """A list from opening or on a forged register, and the same with another severity in an early raise; no second one without a raise.
 
-    At times the alarm is raised just so directly before and behind: history then has one entry of these in one list, and more in the other.
+    At times the alarm is raised just so directly before and behind: history then has one entry of these in one list, and more in the other. In
+    lists with operations 13 and 14 an alarm of its own is suppressed until the latest time, which may have come directly behind the raise.
     """
     given = rng.randint(1, 4), rng.randint(1, 12), rng.randint(1, 3)
     start = opened(given) if rng.random() < 0.75 else Given(bytes(forged(rng, *given)))
-    orders = [start, *steps(rng, count, ample(given), (named_values, named_values, plain_values))]
-    places = reach.raises(orders)
+    timed = isinstance(start, Given) or rng.random() < 0.3
+    until = [Step(call(op, id=b"u", type=b"u", end=max(TIMES)), 1552) for op in (1, SUPPRESS_UNTIL)] if timed else []
+    orders = [start, *until, *steps(rng, count, ample(given), (named_values, named_values, plain_values), timed)]
+    places = [place for place in reach.raises(orders) if place > len(until)]
     if not places:
         return orders, None
     place = rng.choice(places[:4])
@@ -257,7 +281,8 @@ def one_severity(rng, count):
     severity = raised.call[reach.severity_at(raised.call)]
     other = (severity + rng.randint(1, 5)) % 6
     before = orders[:place] + [raised] * rng.randrange(2)
-    behind = [raised] * rng.randrange(2) + [refused_policy(rng, order) for order in orders[place + 1:]]
+    lifts = [Step(call(LIFT, time=max(TIMES)), 1552)] * (timed and rng.randrange(2))
+    behind = lifts + [raised] * rng.randrange(2) + [refused_policy(rng, order) for order in orders[place + 1:]]
     for at in range(0, len(behind), 4):
         behind.insert(at, tight_report(rng, (severity, other)))
     orders = [*before, raised, *behind]

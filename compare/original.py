@@ -8,7 +8,8 @@ readiness (M-103) are compared with the worst over all of the Rust's active alar
 worst over those that are not, by the Rust's own state of each: that these are left aside is then the comparison's reading, not the Rust's.
 The number, which is the active length, and the two counters are the Rust's in every summary.
 
-The Rust does not count raises (M-100): alarms are compared without them. compare/raises.py sets them beside the Rust's answers.
+The Rust does not count raises (M-100): alarms are compared without them. compare/raises.py sets them beside the Rust's answers. It knows no
+suppression until a time (M-105): it is not given lists with operations 13 and 14, and without them no alarm has an end.
 """
 import functools
 import itertools
@@ -30,7 +31,7 @@ def text(value):
 @functools.lru_cache(maxsize=8192)
 def alarm_shown(record):
     alarm = alarm_of(record)
-    shown = {name: text(value) for name, value in alarm.items() if name not in ("key", "details", "raises")}
+    shown = {name: text(value) for name, value in alarm.items() if name not in ("key", "details", "raises", "end")}
     readiness = {5: 2, 4: 1}.get(alarm["severity"], 0) if alarm["state"] < 4 else 0
     details = None if alarm["details"] is None else alarm["details"].hex()
     return shown | {"key": alarm["key"].hex(), "details": details, "correlation_id": None, "readiness": readiness}

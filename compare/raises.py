@@ -15,6 +15,7 @@ from original import alarm_shown, runs
 from records import MOST_RAISES, WIDTH, alarm_of, raises_at, unlinked
 from register import SAME
 from soundness import sound_chains, walked
+from timed import LIFT, is_timed
 
 CODE_UPDATED, CODE_LIMIT, CODE_SUPPRESSED, CODE_ACKNOWLEDGED = 2, 5, 6, 7
 ANSWERED_ALARM = (CODE_RAISED, CODE_UPDATED, CODE_SUPPRESSED, CODE_ACKNOWLEDGED)
@@ -119,6 +120,11 @@ class CallMet(NamedTuple):
         """Whether an alarm with more than one raise has left the active chain."""
         return any(alarm["raises"] > 1 for index, alarm in self.before.active.items() if index not in self.after.active)
 
+    def lifted(self):
+        """Whether an alarm with more than one raise has become updated without being raised."""
+        states = [(alarm, self.after.active[index]) for index, alarm in self.before.active.items()] if self.op == LIFT else []
+        return any(old["state"] != new["state"] and new["raises"] > 1 for old, new in states)
+
     def overwritten(self):
         """Whether the newest entry has become one with another count."""
         if not (self.before.newest and self.after.newest):
@@ -136,6 +142,7 @@ KINDS = {
     "not counted where an id is active": lambda call: call.number == ID_IS_ACTIVE,
     "acknowledged with more than 1": lambda call: call.acted(CODE_ACKNOWLEDGED),
     "suppressed with more than 1": lambda call: call.acted(CODE_SUPPRESSED),
+    "lifted with more than 1": CallMet.lifted,
     "cleared with more than 1": lambda call: call.code == CODE_CLEARED and call.ended(),
     "expired with more than 1": lambda call: call.op == EXPIRE and call.ended(),
     "an entry overwritten by one with another count": CallMet.overwritten,
@@ -161,7 +168,7 @@ class Met:
 
     def see(self, order, outcome):
         is_step = isinstance(order, Step)
-        if is_step and (outcome.number not in (0, ID_IS_ACTIVE) or order.call[0] > EXPIRE):
+        if is_step and (outcome.number not in (0, ID_IS_ACTIVE) or order.call[0] > EXPIRE and not is_timed(order.call)):
             return
         before, self.held = self.held, held(outcome.register)
         if is_step and before and self.held:

@@ -1,8 +1,8 @@
 """How far one wrong severity reaches: M-113 of document 02, over document 01's calls and docs/layout.json, and not from the definition.
 
 Two lists differ only in the legal severity byte of one raise. After every call their active lengths are equal, and so is the active count
-of each severity but the two entered ones; of each of these the list that has it may count one alarm more. Operations 1 to 4, 7 and 11 return the same
-number in both, and answer with the same head of 16 bytes.
+of each severity but the two entered ones; of each of these the list that has it may count one alarm more. Operations 1 to 4, 7, 11 and 14 return
+the same number in both, and answer with the same head of 16 bytes.
 
 What the documents leave open is read as docs/DECISIONS.md, 2.3, reads it: a wrong reading there would be one here too. Policy calls are left
 aside only behind the raise and only where they are answered, and from the first of them on nothing is checked; refused calls may stand in
@@ -19,8 +19,8 @@ from reading import FIELDS, VALUES, Call, Refused
 from records import LAYOUT, WIDTH, link, number
 from soundness import sound_chains
 
-RAISE, POLICY = b"\1", (b"\5", b"\6")  # operation bytes
-SAME_HEADS = (b"\1", b"\2", b"\3", b"\4", b"\7", b"\x0b")
+RAISE, POLICY, LIFT = b"\1", (b"\5", b"\6", b"\x0d"), b"\x0e"  # operation bytes
+SAME_HEADS = (b"\1", b"\2", b"\3", b"\4", b"\7", b"\x0b", LIFT)
 HEAD = 16
 
 
@@ -144,6 +144,7 @@ def active(one, other):
 
 COMPARED, DIFFER = "calls compared", "counts that differ"
 PAIRS, ENDED, ON_GIVEN, REFUSED_POLICY = "pairs", "pairs ended by a policy call", "pairs on given registers", "refused policy calls"
+LIFTED = "lifts of an alarm"
 ANSWERED = {1: "raises answered Raised", 2: "raises answered Updated"}
 DIFFERENCES = {
     "histories of two lengths": lambda one, other: number(one.register, "history_length") != number(other.register, "history_length"),
@@ -151,7 +152,7 @@ DIFFERENCES = {
     "calls refused in one list alone": lambda one, other: one.number != other.number,
     "answer slices too short in both": lambda one, other: one.number == other.number == 30,
 }
-NAMES = [PAIRS, COMPARED, DIFFER, ENDED, ON_GIVEN, REFUSED_POLICY, *ANSWERED.values(), *DIFFERENCES]
+NAMES = [PAIRS, COMPARED, DIFFER, ENDED, ON_GIVEN, REFUSED_POLICY, LIFTED, *ANSWERED.values(), *DIFFERENCES]
 
 
 def tallied(name):
@@ -166,6 +167,11 @@ def unmet(tally, by_rust):
 
 def is_policy(order):
     return isinstance(order, Step) and order.call[:1] in POLICY
+
+
+def lifts(order, outcome):
+    """Whether an order lifts an alarm's suppression (M-105)."""
+    return isinstance(order, Step) and order.call[:1] == LIFT and outcome.number == 0 and any(outcome.answer[8:16])
 
 
 class Reach:
@@ -214,5 +220,6 @@ class Reach:
     def meet(self, order, one, other, sides):
         """Counts what a call behind the raise meets."""
         found = [name for name, differ in DIFFERENCES.items() if differ(one, other)] + [REFUSED_POLICY] * is_policy(order)
+        found += [LIFTED] * lifts(order, one)
         found += [COMPARED + by for by in sides] + [DIFFER + by for by, (here, there) in sides.items() if here.counts != there.counts]
         self.count(*found)

@@ -1,5 +1,6 @@
 #!/usr/bin/env python3
-"""Recorded lists: crates/lists_replay/stdin holds lists of calls, and stdout what the Rust answers to them, in document 01's bytes.
+"""Recorded lists: crates/lists_replay/stdin holds lists of calls, and stdout what the Rust answers to them, in document 01's bytes; to lists with
+operations 13 and 14 (M-105), which the Rust has not, it holds what the model answers.
 
 compare/recorded.py                  checks the two files; the last line is 'N passed, M failed'
 compare/recorded.py write [FOLDER]   writes them; FOLDER holds the six Rust files, as for compare/oracle/build.sh
@@ -19,21 +20,23 @@ import sys
 
 import imports  # noqa: F401  (finds the list of checks)
 import always
+import always_timed
 import characters
+import ends
 import generate
 import headline
 import model
 import programs
 import raises
 from checklist import Skip, run
-from differential import ANSWERS, Difference, Tools, counted, modelled, ran, refusals
+from differential import ANSWERS, Difference, Tools, counted, for_the_rust, modelled, ran, refusals
 from orders import Open, Step, written
 from original import EXPIRED, Original, summary_body
 from records import ROOT, WIDTH, alarm_record, event_record
 from standin import read
 
 STDIN, STDOUT = (ROOT / "crates/lists_replay" / name for name in ("stdin", "stdout"))
-LISTS, CALLS, SEED = 60, 30, 1
+LISTS, TIMED_LISTS, CALLS, SEED = 60, 20, 30, 1
 HISTORY = 9  # the operation
 # what the program has room for
 MOST_RECORDS, MOST_ANSWER, MOST_CALL = 12, 13 * WIDTH, 4096
@@ -55,7 +58,7 @@ def sent(value):
 def alarm_bytes(shown):
     alarm = {name: sent(value) for name, value in shown.items()}
     details = None if shown["details"] is None else bytes.fromhex(shown["details"])
-    return alarm_record(alarm | {"key": bytes.fromhex(shown["key"]), "details": details})
+    return alarm_record(alarm | {"key": bytes.fromhex(shown["key"]), "details": details, "end": None})
 
 
 def event_bytes(shown):
@@ -153,10 +156,10 @@ def small_enough(orders):
     return records <= MOST_RECORDS and all(len(order.call) <= MOST_CALL for order in orders[1:])
 
 
-def some_list(rng):
+def some_list(rng, timed=False):
     """A list by chance that the program has room for, with reports at its end."""
     while True:
-        orders = generate.fresh(rng, CALLS)
+        orders = generate.fresh(rng, CALLS, timed)
         if all(isinstance(order, (Open, Step)) for order in orders) and small_enough(orders):
             orders += [Step(generate.call(op), MOST_ANSWER) for op in (8, 9, 10, 11)]
             return orders[:1] + [order._replace(room=min(order.room, MOST_ANSWER)) for order in orders[1:]]
@@ -164,18 +167,32 @@ def some_list(rng):
 
 def lines_of(oracle, orders):
     """The line of each order by the Rust."""
+    if not for_the_rust(orders):
+        raise ValueError("the Rust cannot follow this list")
     recorder, printed = Recorder(), ran(oracle, orders).decode().splitlines()
     return [recorder.line(order, line) for order, line in zip(orders, printed, strict=True)]
 
 
+def timed_lists():
+    """Lists with operations 13 and 14: by chance, and those of every run."""
+    rng = random.Random(SEED)
+    return [*(some_list(rng, True) for _ in range(TIMED_LISTS)), *filter(small_enough, always_timed.ends_bare())]
+
+
+def by_the_model(orders):
+    """The line of each order by the model."""
+    return [row(outcome.number, bytes(outcome.answer[:outcome.length])) for outcome in modelled(orders)]
+
+
 def recorded(oracle):
-    """Lists by chance, and those of texts around their limits, with the line of each order by the Rust."""
+    """Lists by chance, and those of texts around their limits, with the line of each order by the Rust; then lists with operations 13 and 14."""
     rng, found = random.Random(SEED), []
     while len(found) < LISTS:
         orders = some_list(rng)
         with contextlib.suppress(Cut):
             found.append((orders, lines_of(oracle, orders)))
     found += [(orders, lines_of(oracle, orders)) for orders in always.texts()]
+    found += [(orders, by_the_model(orders)) for orders in timed_lists()]
     return written([order for orders, _ in found for order in orders]), "".join(line for _, lines in found for line in lines)
 
 
@@ -183,9 +200,9 @@ def recorded(oracle):
 
 def by_model(_root):
     orders, lines = list(read(STDIN.read_bytes())), STDOUT.read_text().splitlines(True)
-    for place, (outcome, line) in enumerate(zip(modelled(orders), lines, strict=True)):
-        if row(outcome.number, bytes(outcome.answer[:outcome.length])) != line:
-            yield f"order {place}: number {outcome.number} and length {outcome.length}, recorded: {line.strip()}"
+    for place, (found, line) in enumerate(zip(by_the_model(orders), lines, strict=True)):
+        if found != line:
+            yield f"order {place}: {found.strip()}, recorded: {line.strip()}"
 
 
 @functools.cache
@@ -220,6 +237,11 @@ def every_text(_root):
     yield from characters.missing(tally(), characters.KINDS)
 
 
+def every_end(_root):
+    """The lists set, keep, remove and lift ends in every way that lists from a fresh register have."""
+    yield from ends.unmet(tally(), False)
+
+
 def by_rust(_root):
     try:
         oracle = programs.oracle()
@@ -235,6 +257,7 @@ CHECKS = {
     "summaries of every kind are recorded": every_headline,
     "raises of every kind are recorded": every_raise,
     "texts of every kind are recorded": every_text,
+    "ends of every kind are recorded": every_end,
     "the Rust gives what is recorded": by_rust,
 }
 

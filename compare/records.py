@@ -1,7 +1,8 @@
 """The fields of header, alarm and event records as values, by docs/layout.json.
 
 An alarm and an event are dictionaries of their fields: strings are bytes, an absent one is None, times are signed
-numbers, an object is its kind and its parts, a scope its number and its string. Raises are a number (M-100).
+numbers, an object is its kind and its parts, a scope its number and its string. Raises are a number (M-100); the end is that of a suppression
+until a time, None where there is none (M-105).
 """
 import functools
 import json
@@ -55,6 +56,16 @@ def time_at(data, at):
 
 def put_time(data, at, value):
     put(data, at, value.to_bytes(8, "big", signed=True))
+
+
+def time_or_none(data, field):
+    return time_at(data, field["at"]) if data[field["present"]] else None
+
+
+def put_time_or_none(data, field, value):
+    if value is not None:
+        data[field["present"]] = 1
+        put_time(data, field["at"], value)
 
 
 def string_at(data, field):
@@ -114,7 +125,6 @@ def put_raises(data, value, index=0):
 @functools.lru_cache(maxsize=4096)
 def alarm_of(record):
     fields = LAYOUT["alarm"]
-    cleared = fields["cleared_at"]
     alarm = {name: string_at(record, fields[name]) for name in ALARM_STRINGS}
     return alarm | {
         "key": record[fields["key"]:fields["key"] + 16],
@@ -122,9 +132,10 @@ def alarm_of(record):
         "state": record[fields["state"]],
         "raised_at": time_at(record, fields["raised_at"]),
         "updated_at": time_at(record, fields["updated_at"]),
-        "cleared_at": time_at(record, cleared["at"]) if record[cleared["present"]] else None,
+        "cleared_at": time_or_none(record, fields["cleared_at"]),
         "object": object_at(record),
         "raises": raises_at(record),
+        "end": time_or_none(record, fields["end"]),
     }
 
 
@@ -134,9 +145,8 @@ def alarm_record(alarm):
     data[fields["severity"]], data[fields["state"]] = alarm["severity"], alarm["state"]
     put_time(data, fields["raised_at"], alarm["raised_at"])
     put_time(data, fields["updated_at"], alarm["updated_at"])
-    if alarm["cleared_at"] is not None:
-        data[fields["cleared_at"]["present"]] = 1
-        put_time(data, fields["cleared_at"]["at"], alarm["cleared_at"])
+    put_time_or_none(data, fields["cleared_at"], alarm["cleared_at"])
+    put_time_or_none(data, fields["end"], alarm["end"])
     for name in ALARM_STRINGS:
         put_string(data, fields[name], alarm[name])
     put_object(data, alarm["object"][0], alarm["object"][1:])

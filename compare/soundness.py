@@ -1,4 +1,4 @@
-"""Whether bytes are a sound register: document 01, "Sound means", over docs/layout.json.
+"""Whether bytes are a sound register: document 01, "Sound means", and document 02's M-100, M-104 and M-105, over docs/layout.json.
 
 The check of a record sets aside each byte that has a meaning; all others must be zero.
 """
@@ -8,6 +8,9 @@ import itertools
 import imports  # noqa: F401  (finds the reading of calls)
 from reading import LONGEST, stored
 from records import ALARM_STRINGS, CHAINS, EVENT_STRINGS, LAYOUT, QUEUE_KIND, RAISES_WIDTH, WIDTH, link, number, object_strings
+
+
+SUPPRESSED = 3  # the state
 
 
 class Unsound(Exception):
@@ -37,6 +40,13 @@ class Record:
     def present(self, field):
         return "present" not in field or self.byte(field["present"], (0, 1)) == 1
 
+    def optional_time(self, field):
+        """Whether there is one, which may be any."""
+        present = self.present(field)
+        if present:
+            self.part(field["at"], 8)
+        return present
+
     def string(self, name, field):
         if not self.present(field):
             return
@@ -60,11 +70,11 @@ def alarm(record, states):
     fields = LAYOUT["alarm"]
     record.part(fields["key"], 16)
     record.byte(fields["severity"], range(6))
-    record.byte(fields["state"], states)
+    state = record.byte(fields["state"], states)
     record.part(fields["raised_at"], 8)
     record.part(fields["updated_at"], 8)
-    if record.present(fields["cleared_at"]):
-        record.part(fields["cleared_at"]["at"], 8)
+    record.optional_time(fields["cleared_at"])
+    need(not record.optional_time(fields["end"]) or state == SUPPRESSED)  # M-105
     for name in ALARM_STRINGS:
         record.string(name, fields[name])
     kind = record.byte(fields["object"]["kind"], range(1, 9))

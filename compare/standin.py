@@ -10,6 +10,8 @@ import sys
 
 import imports  # noqa: F401  (finds the reading of calls)
 import wrong_characters
+import wrong_ends
+import wrong_lifts
 import wrong_raises
 from differential import modelled
 from headline import ACKNOWLEDGED, SUMMARY, SUPPRESSED, without, worst
@@ -124,9 +126,10 @@ SUMMARIES = {
 }
 
 
-# ---- wrong counts of raises (M-100) and wrong measures of texts (M-104): with these the model itself is another
+# ---- wrong counts of raises (M-100), wrong measures of texts (M-104), wrong suppressions and lifts (M-105): with these the model itself is another
 
 MODELS = wrong_raises.WRONG | wrong_raises.WRONG_ON_GIVEN | wrong_characters.WRONG | wrong_characters.WRONG_ON_GIVEN
+MODELS |= wrong_ends.WRONG | wrong_lifts.WRONG | wrong_lifts.WRONG_ON_GIVEN
 
 
 # ---- what the driver writes

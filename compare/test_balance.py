@@ -71,6 +71,9 @@ SMALLEST = [
     ([A, step(1, object=(6, b"b"))], (1, 1, 0, 0)),
     ([A, SUMMARY, step(8), step(9), step(10)], (1, 1, 0, 0)),
     ([A, step(3), step(4), step(5), step(6), step(12, n=1)], (1, 1, 0, 0)),
+    ([A, step(13), step(14, time=1)], (1, 1, 0, 0)),
+    ([A, step(13), step(14, time=0), EXPIRE], (1, 0, 0, 1)),
+    ([A, step(13), step(13, end=0), step(14, 1551, time=1), A, cleared(b"a"), step(14, time=9)], (1, 0, 1, 0)),
 ]
 
 
@@ -113,6 +116,7 @@ WRONG_RULES = {
     "code 4 counted as Cleared": rule(cleared_=(3, 4)),
     "code 5's number counted": rule(expire=(1, 7)),
     "operation 11's number counted": rule(expire=(7, 11)),
+    "operation 14's number counted": rule(expire=(7, 14)),
     "Raised not counted": rule(raised_=()),
     "Cleared not counted": rule(cleared_=()),
     "numbers of expire calls not counted": rule(expire=()),

@@ -79,6 +79,7 @@ MET = [
     ([FRESH, step(2, region=LONG)], ["a region of more than 120 code points, answered"]),
     ([FRESH, step(5, reason=b"x" * 120)], []),
     ([FRESH, step(5, reason=E_ACUTE * 121)], ["a reason of more than 120 code points, answered"]),
+    ([FRESH, step(13, reason=LONG)], ["a reason of more than 120 code points, answered"]),
     ([FRESH, step(6, denial=LONG)], ["a denial of more than 120 code points, answered"]),
 ]
 ON_ACTIVE, ON_HISTORY = "a longer one is sound on the active chain", "a longer one is sound on the history chain"
@@ -88,6 +89,9 @@ MET_ON_GIVEN = [
     ([holding(LONG), step(4)], ["a longer one is suppressed", ON_ACTIVE]),
     ([holding(LONG), step(5)], ["a longer one is acknowledged by policy", ON_ACTIVE]),
     ([holding(LONG), step(6)], ["a longer one is suppressed by policy", ON_ACTIVE]),
+    ([holding(LONG), step(13)], ["a longer one is suppressed until a time", ON_ACTIVE]),
+    ([holding(LONG), step(13), step(14, time=0)], [ON_ACTIVE, ON_HISTORY]),
+    ([holding(LONG), step(13), step(14, time=1)], ["a longer one is lifted", ON_ACTIVE, ON_HISTORY]),
     ([holding(LONG), step(2)], ["a longer one is cleared", ON_ACTIVE]),
     ([holding(LONG), step(2, object=(6, b"b"))], [ON_ACTIVE]),
     ([holding(LONG), step(7, time=1)], ["a longer one is expired", ON_ACTIVE]),

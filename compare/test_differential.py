@@ -1,6 +1,7 @@
 #!/usr/bin/env python3
 """Whether the comparison notices: the model in the register's place, with and without faults, twins that are none, a balance that fails,
-a severity that reaches too far, a headline that is not M-103's, raises that are not M-100's, texts that are not measured as by M-104."""
+a severity that reaches too far, a headline that is not M-103's, raises that are not M-100's, texts that are not measured as by M-104, alarms
+that are not suppressed until a time as by M-105."""
 import collections
 import os
 import pathlib
@@ -14,12 +15,16 @@ import standin
 import test_balance
 import test_characters
 import test_characters_met
+import test_ends
+import test_ends_met
 import test_headline
 import test_raises
 import test_raises_met
 import test_reach
 import test_reach_figures
 import wrong_characters
+import wrong_ends
+import wrong_lifts
 import wrong_raises
 from calls import call
 from checklist import run
@@ -61,6 +66,23 @@ def noticed(fault, orders=some_list):
             yield found[1]
         if found[0] != len(case.orders) - 1 or not report(case, STANDIN).startswith(f"after order {found[0]}: "):
             yield f"the report is about order {found[0]} of {len(case.orders)}"
+    return check
+
+
+def no_wrong_ends(_root):
+    os.environ["FAULT"] = ""
+    for orders in (test_ends_met.some_list(), test_ends_met.given_list()):
+        if fault_of(Case(orders), STANDIN):
+            yield f"{fault_of(Case(orders), STANDIN)}"
+
+
+def noticed_in_many(fault, orders):
+    """The list is of many short ones, and is not made small."""
+    def check(_root):
+        os.environ["FAULT"] = fault
+        found = fault_of(Case(orders()), STANDIN)
+        if not found or found[1] == "the driver ended":
+            yield f"{found}"
     return check
 
 
@@ -116,6 +138,9 @@ CHECKS = {
     **{f"wrong raises are noticed: {name}": noticed(name, test_raises_met.given_list) for name in wrong_raises.WRONG_ON_GIVEN},
     **{f"wrong texts are noticed: {name}": noticed(name, test_characters_met.some_list) for name in wrong_characters.WRONG},
     **{f"wrong texts are noticed: {name}": noticed(name, test_characters_met.given_list) for name in wrong_characters.WRONG_ON_GIVEN},
+    "no wrong ends": no_wrong_ends,
+    **{f"wrong ends are noticed: {name}": noticed_in_many(name, test_ends_met.some_list) for name in wrong_ends.WRONG | wrong_lifts.WRONG},
+    **{f"wrong ends are noticed: {name}": noticed_in_many(name, test_ends_met.given_list) for name in wrong_lifts.WRONG_ON_GIVEN},
     "programs that end": ended,
     "room that hangs on chance": rooms,
     "twins": twins,
@@ -123,6 +148,8 @@ CHECKS = {
     **test_balance.CHECKS,
     **test_characters.CHECKS,
     **test_characters_met.CHECKS,
+    **test_ends.CHECKS,
+    **test_ends_met.CHECKS,
     **test_headline.CHECKS,
     **test_raises.CHECKS,
     **test_raises_met.CHECKS,

@@ -281,7 +281,7 @@ def opening(_root):
 def order(_root):
     """The first fault wins."""
     cut = bytes([1]) + b"".join(pieces(1, severity=9)[:4])
-    for data, wanted in [(b"", 23), (b"\x0d\0", 23), (b"\1", 24), (call(1, cause=b"z") + b"\0", 28), (b"\3" + bytes(8) + b"\0\0\0\1\xff\1\0", 27),
+    for data, wanted in [(b"", 23), (b"\x0f\0", 23), (b"\x0d\0", 24), (b"\1", 24), (call(1, cause=b"z") + b"\0", 28), (b"\3" + bytes(8) + b"\0\0\0\1\xff\1\0", 27),
                          (cut, 25), (b"\3" + bytes(8) + b"\0\0\0\x41", 26), (call(1, cause=b"z")[:-2], 28),
                          (call(1, region=b"", text=b"\xff"), 29), (call(2, region=b""), 0), (call(1, details=b"\xff"), 0), (b"\x0a\0", 24),
                          (call(1, severity=255), 25), (call(5, denial=b"\xff"), 27), (call(5, critical_allowed=2), 25)]:

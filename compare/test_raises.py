@@ -11,6 +11,7 @@ from twins import differ
 
 RAISE, RAISE_B, CLEAR, EXPIRE = (1, {}), (1, RB), (2, {}), (7, dict(time=1))
 ACKNOWLEDGE, SUPPRESS, BY_POLICY, SUPPRESS_BY_POLICY = (3, {}), (4, {}), (5, {}), (6, {})
+UNTIL, LIFT = (13, {}), (14, dict(time=1))
 MAJOR = (1, dict(severity=4))
 TAKEN = (1, dict(object=(6, b"b")))  # another key with an id that is active
 REPORTS = [(op, {}) for op in range(8, 12)] + [(12, dict(n=1))]
@@ -37,6 +38,12 @@ LISTS = {
     "raised again, then suppressed": ([RAISE, RAISE, SUPPRESS], 6, [2], [1, 2, 2]),
     "raised again, then acknowledged by policy": ([RAISE, RAISE, BY_POLICY], 7, [2], [1, 2, 2]),
     "raised again, then suppressed by policy": ([RAISE, RAISE, SUPPRESS_BY_POLICY], 6, [2], [1, 2, 2]),
+    "raised again, then suppressed until a time": ([RAISE, RAISE, UNTIL], 6, [2], [1, 2, 2]),
+    "raised while suppressed until a time": ([RAISE, UNTIL, RAISE], 2, [2], [1, 2]),
+    "lifted": ([RAISE, UNTIL, LIFT], 11, [1], [1, 1, 1]),
+    "raised again while suppressed until a time, then lifted": ([RAISE, UNTIL, RAISE, LIFT], 11, [2], [1, 2, 2]),
+    "lifted and raised again": ([RAISE, UNTIL, LIFT, RAISE], 2, [2], [1, 1, 2]),
+    "an end not later than the time": ([RAISE, (13, dict(end=0))], 34, [1], [1]),
     "raised while acknowledged": ([RAISE, ACKNOWLEDGE, RAISE], 2, [2], [1, 2]),
     "raised while suppressed": ([RAISE, SUPPRESS, RAISE], 2, [2], [1, 2]),
     "raised while suppressed by policy": ([RAISE, SUPPRESS_BY_POLICY, RAISE], 2, [2], [1, 2]),
@@ -175,10 +182,12 @@ def sound(_root):
 
 
 def beside_reserved(_root):
-    """The bytes behind the raises are still without meaning."""
-    station = after(RAISE)
-    station.register[WIDTH + LAYOUT["alarm"]["raises"] + RAISES_WIDTH] = 1
-    yield from unlike("number", station(10), 22)
+    """The bytes behind the raises are the end's, and those behind it still without meaning."""
+    at = LAYOUT["alarm"]["raises"] + RAISES_WIDTH
+    for byte in range(at, WIDTH):
+        station = after(RAISE)
+        station.register[WIDTH + byte] = 1
+        yield from unlike(f"byte {byte}", station(10), 22)
 
 
 # ---- twins

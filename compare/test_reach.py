@@ -37,7 +37,7 @@ def places(_root):
         ("a severity that is none", call(1, severity=6), None),
         ("an id that is too long", call(1, id=b"i" * 65), None),
         ("nothing", b"", None),
-        *((f"operation {op}", call(op), None) for op in range(2, 13)),
+        *((f"operation {op}", call(op), None) for op in range(2, 15)),
     ]:
         if reach.severity_at(data) != wanted:
             yield f"{name}: {reach.severity_at(data)}, not {wanted}"
@@ -197,7 +197,10 @@ def rust_followed(_root):
 
 SUPPRESS = step(6, time=3)
 EXPIRE = step(7, time=3)
-REFUSED = [*(Step(call(op) + b"\0", 1552) for op in (5, 6)), *(step(op, 1551) for op in (5, 6)), Step(b"\5", 1552), Step(b"\x0d", 1552)]
+POLICY = (5, 6, 13)
+REFUSED = [*(Step(call(op) + b"\0", 1552) for op in POLICY), *(step(op, 1551) for op in POLICY), step(13, end=0), Step(b"\5", 1552),
+           Step(b"\x0d", 1552), Step(b"\x0f", 1552)]
+UNTIL, LIFT = step(13), step(14, time=1)  # an alarm is suppressed until 1, and lifted
 CRITICAL = raised(b"a", 5)  # entered as 4
 
 
@@ -214,6 +217,8 @@ SAID = [
     ("a refused raise", [FRESH, step(1, 1551, severity=5), SUMMARY], True),
     ("an answered suppress with policy", [FRESH, CRITICAL, SUPPRESS], False),
     ("an answered acknowledge with policy", [FRESH, CRITICAL, step(5)], False),
+    ("an answered suppress until a time", [FRESH, CRITICAL, UNTIL], False),
+    ("a lift", [FRESH, CRITICAL, LIFT], True),
     ("a policy call that finds nothing", [FRESH, CRITICAL, step(5, id=b"x")], False),
     ("behind an answered policy call", [FRESH, CRITICAL, SUPPRESS, SUMMARY], False),
     ("behind refused policy calls", [FRESH, CRITICAL, *REFUSED, SUMMARY], True),
@@ -287,9 +292,12 @@ TALLIES = [
     ([generate.opened((1, 1, 1)), THREE, step(8, 16, severity_or_all=3), step(8, 1551), step(8, severity_or_all=3), EXPIRE, SUMMARY], 1,
      {reach.PAIRS: 1, reach.COMPARED: 6, reach.DIFFER: 4, "raises answered Raised": 1, "calls refused in one list alone": 1,
       "answer slices too short in both": 1, "answers of two lengths": 1}),
-    ([FRESH, THREE, THREE, THREE, *REFUSED[:4], SUPPRESS, SUMMARY], 3,
-     {reach.PAIRS: 1, reach.COMPARED: 5, reach.DIFFER: 5, "raises answered Updated": 1, "histories of two lengths": 5,
-      reach.REFUSED_POLICY: 4, "answer slices too short in both": 2, reach.ENDED: 1}),
+    ([FRESH, THREE, THREE, THREE, *REFUSED[:7], SUPPRESS, SUMMARY], 3,
+     {reach.PAIRS: 1, reach.COMPARED: 8, reach.DIFFER: 8, "raises answered Updated": 1, "histories of two lengths": 8,
+      reach.REFUSED_POLICY: 7, "answer slices too short in both": 3, reach.ENDED: 1}),
+    ([FRESH, THREE, THREE, UNTIL, THREE, step(14, time=0), step(14, 1551, time=1), LIFT, LIFT], 4,
+     {reach.PAIRS: 1, reach.COMPARED: 5, reach.DIFFER: 5, "raises answered Updated": 1, "histories of two lengths": 3, reach.LIFTED: 1,
+      "answer slices too short in both": 1}),
     ([test_balance.held(), SUMMARY, THREE, cleared(b"a"), FRESH, THREE], 2,
      {reach.PAIRS: 1, reach.COMPARED: 2, reach.DIFFER: 1, "raises answered Raised": 1, reach.ON_GIVEN: 1}),
     ([FRESH, step(1, 1551, 1), SUMMARY], 1, {reach.PAIRS: 1, reach.COMPARED: 2, "answer slices too short in both": 1}),

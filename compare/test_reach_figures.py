@@ -7,7 +7,7 @@ from test_reach import FRESH, followed, raised
 
 EXPIRE = step(7, time=3)
 # by operation: a call behind a raise of severity 3, entered as 4
-LAST = {1: raised(b"b", 3), 2: cleared(b"a"), 3: step(3, time=1), 4: step(4, time=1), 7: EXPIRE, 11: SUMMARY}
+LAST = {1: raised(b"b", 3), 2: cleared(b"a"), 3: step(3, time=1), 4: step(4, time=1), 7: EXPIRE, 11: SUMMARY, 14: step(14, time=3)}
 OTHERS = {8: step(8), 9: step(9), 10: step(10), 12: step(12)}
 SHORT = Step(SUMMARY.call, 1551)
 

@@ -27,6 +27,7 @@ def raised(name, severity, time=0):
 RAISES = [[raised(name, severity, time) for severity in SEVERITIES] for name, time in ((b"a", 0), (b"b", 2))]
 CALLS = [*itertools.chain(*RAISES), call(1, object=(6, b"b")), call(2), call(2, object=(6, b"b"), time=3), call(3, time=3), call(4, time=1),
          call(4, id=b"b", time=1), call(7, time=1), call(7, time=3)]
+LIFT = call(14, time=1)
 
 
 class Registers:
@@ -102,6 +103,12 @@ def doubled():
     return register
 
 
+def suppressed():
+    """A register on which two alarms are suppressed, one of them until a time: policy calls stand before the raises of the lists."""
+    calls = [raised(b"a", 3), raised(b"b", 3), call(13), call(4, id=b"b")]
+    return [*modelled([generate.opened((2, 4, 1)), *(Step(data, 1552) for data in calls)])][-1].register
+
+
 def closed(_root):
     """With limits 1, 1, 1 the lists of these calls lead to few registers: all lists of any length keep the law.
 
@@ -114,9 +121,10 @@ def closed(_root):
 
 
 def short(_root):
-    """Every list of up to five calls on a fresh register, and of up to four on one that no list reaches."""
-    for start, length, least in ((opened(2, 3, 1), 5, 10000), (doubled(), 4, 1000)):
-        fault, pairs_met, _ = searched(start, CALLS, length)
+    """Every list of up to five calls on a fresh register, of up to four on one that no list reaches, and of up to three, with lifts, on one with
+    suppressed alarms."""
+    for start, calls, length, least in ((opened(2, 3, 1), CALLS, 5, 10000), (doubled(), CALLS, 4, 1000), (suppressed(), [*CALLS, LIFT], 3, 1000)):
+        fault, pairs_met, _ = searched(start, calls, length)
         if fault or pairs_met < least:
             yield f"{fault}; {pairs_met} pairs"
 

@@ -47,8 +47,8 @@ def at_answers(*codes):
 
 def by_an_action():
     """Acknowledge and suppress count too."""
-    def acted(register_, op, index, alarm, late):
-        return ACTED(register_, op, index, alarm | {"raises": model.one_more(alarm["raises"])}, late)
+    def acted(register_, op, index, alarm, late, end=None):
+        return ACTED(register_, op, index, alarm | {"raises": model.one_more(alarm["raises"])}, late, end)
     return replaced(model, "acted", acted)
 
 

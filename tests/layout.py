@@ -32,7 +32,8 @@ OBJECT = {"kind", "strings", "shard_present", "queue", "use", "present_kinds"}
 ALARM = {"key": None, "severity": None, "state": None, "raised_at": None, "updated_at": None,
          "cleared_at": {"present", "at"}, "id": STRING, "type": STRING, "cause": STRING, "object": OBJECT,
          "tenant": OPTION, "slice": OPTION, "region": OPTION, "text": STRING, "details": OPTION,
-         "raises": None}
+         "raises": None, "end": {"present", "at"}}
+OPTIONAL_TIMES = ("cleared_at", "end")
 EVENT = {"action": None, "outcome": None, "occurred_at": None, "id": STRING, "type": STRING, "cause": STRING,
          "principal": STRING, "tenant": OPTION, "reason": STRING, "scope": {"kind", "string"}, "correlation": OPTION}
 
@@ -68,8 +69,8 @@ def object_slots(field):
 def field_slots(name, field):
     if name in NUMBER:
         return [(name, field, NUMBER[name])]
-    if name == "cleared_at":
-        return [("cleared_at present", field["present"], 1), ("cleared_at", field["at"], TIME)]
+    if name in OPTIONAL_TIMES:
+        return [(f"{name} present", field["present"], 1), (name, field["at"], TIME)]
     if name == "object":
         return object_slots(field)
     if name == "scope":

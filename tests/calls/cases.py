@@ -1,8 +1,9 @@
 """Calls, good and damaged: `calls()` lists their bytes. What they say is left to reading.py."""
 import random
 
+import end_times
 import long_texts
-from fields import PLAIN, joined, option, pieces, scoped, string, thing, time, u32
+from fields import NOW, PLAIN, joined, option, pieces, scoped, string, thing, time, u32
 from reading import FIELDS, LONGEST, NAMES, OBJECTS, VALUES, WHITE, encoded
 
 # ---- strings
@@ -98,6 +99,8 @@ def faults(field):
     elif name == "scope":
         yield from (bytes([b]) + string(b"s") for b in (3, 4, 128, 255))
         yield from (bytes([b]) + bad for b in (0, 1) for bad in string_faults("scope"))
+    elif name == "end":
+        yield from map(time, (NOW, NOW - 1, 0, -1, 1 - 2**63, -2**63))  # not later than the call's time
     elif field in VALUES:
         yield from (bytes([b]) for b in (2, 3, 6, 7, 127, 128, 254, 255) if b not in VALUES[field])
     elif field.endswith("?"):
@@ -141,7 +144,7 @@ def good_values():
             elif name in LONGEST and name not in ("scope", "cause"):
                 n = LONGEST[name]
                 yield from (joined(op, {field: made(s)}) for s in (b"", b"q", b"a" * n, mixed(n), mixed(n - 1), encoded(0x10FFFF)))
-            elif field == "time":
+            elif field in ("time", "end"):
                 yield from (joined(op, {field: time(t)}) for t in (0, 1, -1, 2**63 - 1, -2**63, 255, 256, -256))
     yield from (joined(12, {"n": n.to_bytes(2, "big")}) for n in (0, 1, 255, 256, 257, 32768, 65535))
     for first in (None, b"", b"x", mixed(64)):
@@ -160,7 +163,7 @@ def objects_and_scopes():
         yield joined(1, {"object": thing(kind, b"a:b", b"c")})
         yield joined(1, {"object": thing(kind, b"a", b"b:c")})
     yield from (joined(1 + q % 2, {"object": thing(8, queue=q)}) for q in (0, 1, 9, 10, 255, 256, 4096, 65534, 65535))
-    for op in (5, 6):
+    for op in (5, 6, 13):
         yield joined(op, {"scope": scoped(2)})
         yield from (joined(op, {"scope": scoped(scope, s)}) for scope in (0, 1) for s in (b"", b"s", mixed(64)))
         yield from (joined(op, {"critical-allowed": bytes([c]), "authorised": bytes([a])}) for c in (0, 1) for a in (0, 1))
@@ -206,7 +209,7 @@ def cut_or_longer():
     for call in whole:
         yield from (call[:n] for n in range(1, len(call)))
         yield from (call + more for more in (b"\0", b"\1", b"\xff", b"\0\0\0\0", call))
-    for op, field, values in ((1, "object", map(thing, OBJECTS)), (6, "scope", map(scoped, VALUES["scope"]))):
+    for op, field, values in ((1, "object", map(thing, OBJECTS)), *((op, "scope", map(scoped, VALUES["scope"])) for op in (6, 13))):
         before = 1 + sum(map(len, pieces(op)[:FIELDS[op].index(field)]))
         yield from (joined(op, {field: value})[:before + n] for value in values for n in range(len(value)))
 
@@ -232,7 +235,7 @@ def by_chance(rng):
         return bytes([rng.choice(list(VALUES[name]))]) if name in VALUES else rng.randbytes(len(PLAIN[field]))
 
     for _ in range(300):
-        op = rng.choice((1, 1, 1, 2, 2, 3, 4, 5, 5, 6, 6, 7, 9, 12))
+        op = rng.choice((1, 1, 1, 2, 2, 3, 4, 5, 5, 6, 6, 7, 9, 12, 13, 13, 14))
         call = joined(op, {field: value(field) for field in FIELDS[op]})
         yield call
         for _ in range(rng.randint(1, 3)):
@@ -245,11 +248,12 @@ def calls():
     """All of them, each once, in an order that is always the same."""
     rng = random.Random(1)
     found = [b""] + [bytes([op]) for op in range(256)] + [bytes([8, b]) for b in (*range(12), 127, 128, *range(250, 256))]
-    found += [bytes([op, 0]) for op in (0, 13, 255)]
+    found += [bytes([op, 0]) for op in (0, 13, 14, 15, 255)]
     found += [*good_values(), *objects_and_scopes()]
     found += [joined(3 + k % 2, {"id": string(s)}) for k, s in enumerate(texts())]
     found += [joined(1, {"details?": option(s)}) for s in NOT_UTF8[:3] + [bytes(range(256)), bytes(range(255, -1, -1)) * 2]]
     found += [joined(1 + k % 2, {"cause": string(cause)}) for k, cause in enumerate(causes())]
     found += long_texts.calls()
+    found += end_times.calls()
     found += [*damaged(), *twice_damaged(rng), *cut_or_longer(), *by_chance(rng)]
     return list(dict.fromkeys(found))

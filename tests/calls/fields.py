@@ -39,8 +39,9 @@ def scoped(scope, s=b"sc"):
     return bytes([scope]) + (string(s) if scope < 2 else b"")
 
 
+NOW = 1_700_000_000_000_000_000
 PLAIN = {
-    "time": time(1_700_000_000_000_000_000), "id": string(b"a1"), "type": string(b"t"), "severity": b"\3",
+    "time": time(NOW), "end": time(NOW + 3_600_000_000_000), "id": string(b"a1"), "type": string(b"t"), "severity": b"\3",
     "cause": string(b"lease-lost"), "object": thing(8), "tenant?": option(b"te"), "slice?": option(b"sl"),
     "region?": option(b"re"), "text": string("Tür".encode()), "details?": option(b"{\xff}"), "authorised": b"\1",
     "principal": string(b"op"), "reason": string(b"why"), "scope": scoped(1), "correlation?": option(b"co"),

@@ -33,7 +33,17 @@ FITTING = [b"x" * 120, "é".encode() * 120, "\U0001F6A1".encode() * 64, "e\u0301
 TOO_MANY = [b"x" * 121, b"x" * 256, "é".encode() * 121, "e\u0301".encode() * 61, b"\0" + b"x" * 120, b"x" * 60 + b"\0" + b"x" * 60,
             "é".encode() * 61 + "€".encode() * 37 + b"x" * 23]
 
-# calls whose lines follow from single sentences of document 01, or of document 02's M-104
+# operation 13: between time and end, and behind them
+UNTIL = "0d {time} {end} 00000001 61 00000001 70 00 00000000 02 00 00 01 00000002 6e6f"
+
+
+def until(time, end):
+    return UNTIL.format(time=time, end=end)
+
+
+ZERO, ONE, LESS, LEAST, MOST = "0000000000000000", "0000000000000001", "ffffffffffffffff", "8000000000000000", "7fffffffffffffff"
+
+# calls whose lines follow from single sentences of document 01, or of document 02's M-104 and M-105
 KNOWN = [
     (raised(), "raise 0 x61 x74 3 x6c656173652d6c6f7374 6 x61 - - - x -"),
     (raised(b"other: a.b "), "raise 0 x61 x74 3 x6f746865723a612e62 6 x61 - - - x -"),
@@ -71,7 +81,25 @@ KNOWN = [
     ("0a", "counts"),
     ("0a 00", "refused 24"),
     ("0c ffff", "take-audit 65535"),
-    ("0d 00", "refused 23"),
+    (until(ZERO, ONE), "suppress-until 0 1 x61 x70 - x 2 - 0 1 x6e6f"),
+    (until(LESS, ZERO), "suppress-until 18446744073709551615 0 x61 x70 - x 2 - 0 1 x6e6f"),
+    (until(LEAST, MOST), "suppress-until 9223372036854775808 9223372036854775807 x61 x70 - x 2 - 0 1 x6e6f"),
+    *((until(time, end), "refused 34") for time, end in
+      [(ZERO, ZERO), (ONE, ZERO), (ZERO, LESS), (MOST, MOST), (MOST, LEAST), (ZERO, LEAST), (LEAST, LEAST)]),
+    (until(ZERO, ZERO) + "00", "refused 24"),
+    (until(ZERO, ZERO)[:-2], "refused 24"),
+    (until(ZERO, ZERO)[:-4] + "ffff", "refused 27"),
+    (f"0d {ZERO} {ZERO}", "refused 24"),
+    (f"0d {ZERO} 00000000000000", "refused 24"),
+    ("0d", "refused 24"),
+    ("0d 00", "refused 24"),
+    (f"0e {ZERO}", "lift 0"),
+    (f"0e {LESS}", "lift 18446744073709551615"),
+    (f"0e {ZERO} 00", "refused 24"),
+    ("0e 00000000000000", "refused 24"),
+    ("0e", "refused 24"),
+    ("0f", "refused 23"),
+    ("0f 00", "refused 23"),
     ("01", "refused 24"),
     ("", "refused 23"),
 ]
@@ -100,7 +128,7 @@ def possible():
         return found | ({28} if name == "cause" else set())
 
     for op, fields in FIELDS.items():
-        yield from ((op, "end", 24), (None, "op", 23))
+        yield from ((op, "left over", 24), (None, "op", 23))
         for field in fields:
             numbers = {24} if field in WIDTHS else {24, 25} if field in VALUES or field == "object" else strings(field)
             yield from ((op, field, number) for number in numbers)
@@ -111,6 +139,7 @@ def possible():
                 yield from ((op, f"scope {scope}", number) for scope in (0, 1) for number in strings("scope"))
     yield 1, "region?", 29
     yield 1, "text", 33
+    yield 13, "end", 34
 
 
 def refusals(data):

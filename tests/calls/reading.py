@@ -1,4 +1,5 @@
-"""What a call says, read from document 01's sections "The call enters" and "Cause names" and document 02's M-104, and from nothing else here.
+"""What a call says, read from document 01's sections "The call enters" and "Cause names" and document 02's M-104 and
+M-105, and from nothing else here.
 
 `Call(call).read()` gives the operation and the values of its fields: a number (a time as the unsigned number of its eight
 bytes), the bytes of a string, None for an absent one; an object is its kind and its parts, a scope its number and its
@@ -11,7 +12,8 @@ import functools
 
 # ---- the table of operations; "?" marks an optional string
 
-POLICY = "time id principal tenant? reason scope correlation? critical-allowed authorised denial"
+ACTION = "id principal tenant? reason scope correlation? critical-allowed authorised denial"
+POLICY = f"time {ACTION}"
 OPERATIONS = {
     1: ("raise", "time id type severity cause object tenant? slice? region? text details?"),
     2: ("clear", "time type cause object tenant? slice? region?"),
@@ -25,6 +27,9 @@ OPERATIONS = {
     10: ("counts", ""),
     11: ("summary", ""),
     12: ("take-audit", "n"),
+    # "Operation 13 is operation 6 with one more field, an end time, directly after the call's time" (M-105)
+    13: ("suppress-until", f"time end {ACTION}"),
+    14: ("lift", "time"),
 }
 FIELDS = {op: tuple(fields.split()) for op, (_, fields) in OPERATIONS.items()}
 
@@ -41,7 +46,7 @@ VALUES = {
     "option": range(2), "kind": range(1, 9), "scope": range(3),
 }
 # the bytes of a number
-WIDTHS = {"time": 8, "n": 2, "queue": 2}
+WIDTHS = {"time": 8, "end": 8, "n": 2, "queue": 2}
 # the eight kinds as `AffectedObject` lists them
 OBJECTS = {
     1: ("string", "string"), 2: ("string", "string"), 3: ("string", "string"), 4: ("string", "string?"),
@@ -132,6 +137,16 @@ class Refused(Exception):
     """The number of a refusal, and the field that it is given at."""
 
 
+def signed(n):
+    """A time, by the unsigned number of its eight bytes."""
+    return n - 2 ** 64 if n >= 2 ** 63 else n
+
+
+def is_later(end, time):
+    """Whether an end is later than a time, both as the numbers of their bytes."""
+    return signed(end) > signed(time)
+
+
 class Call:
     """The bytes of a call, the place in them, and the field that is being read."""
 
@@ -208,9 +223,12 @@ class Call:
         op = self.number(1)
         self.raised = op == 1
         values = {field.removesuffix("?"): self.value(field) for field in FIELDS[op]}
-        self.field = "end"
+        self.field = "left over"
         if self.at < len(self.data):
             self.refuse(24)
+        self.field = "end"
+        if "end" in values and not is_later(values["end"], values["time"]):
+            self.refuse(34)  # "after all field checks" (M-105)
         return op, values
 
 

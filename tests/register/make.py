@@ -1,7 +1,7 @@
 #!/usr/bin/env python3
 """Writes crates/register_damaged/stdin and stdout: registers with orders to damage and check them, and what the program is to print.
 
-The verdicts are those of compare/soundness.py, written from document 01.
+The verdicts are those of compare/soundness.py, written from documents 01 and 02.
 """
 import itertools
 import pathlib
@@ -24,10 +24,10 @@ def verdict(data):
 ABSENT = dict.fromkeys(("tenant", "slice", "region", "details", "correlation"))
 
 
-def made_alarm(key, severity, state, kind, strings, raises, queue=0, cleared=None, **texts):
+def made_alarm(key, severity, state, kind, strings, raises, queue=0, cleared=None, end=None, **texts):
     return alarm_record(ABSENT | texts | {
         "key": bytes([key]) * 16, "severity": severity, "state": state, "object": (kind, *strings, queue), "cleared_at": cleared,
-        "raised_at": 0x0001020304050607, "updated_at": 1 - 2 ** 63, "raises": raises})
+        "raised_at": 0x0001020304050607, "updated_at": 1 - 2 ** 63, "raises": raises, "end": end})
 
 
 def made_event(action, outcome, scope, string=None, **texts):
@@ -50,23 +50,24 @@ def register(limits, chains, records, successes=0, failures=0):
 
 
 # All kinds of chain, options present and absent, raises of 0 and others; texts of 121 code points and of 256, which no raise may have, on
-# both chains (M-104). Every alarm may stand on the active chain, so that nothing but links tells some damages.
+# both chains (M-104); a suppressed alarm with an end (M-105). Every alarm may stand on the active chain, so that nothing but links tells some
+# damages.
 SMALL = register([2, 3, 1], [[5, 2], [1, 4], [3], [6]], {
     5: made_alarm(0xA5, 5, 2, 8, [b"nf", b"n3"], MOST_RAISES, queue=257, id=b"a", type=b"link", cause=b"lease-lost", tenant=b"t", slice=b"",
                   region="Gr\u00fcn".encode(), text=("caf\u00e9 \u20ac" + "x" * 115).encode(), details=b"\xff\x00{}"),
-    2: made_alarm(0x5A, 0, 3, 4, [b"store", b"shard"], 0, id=b"b", type=b"", cause=b"other:a.b", text=b"x" * 256),
+    2: made_alarm(0x5A, 0, 3, 4, [b"store", b"shard"], 0, end=0x0102030405060708, id=b"b", type=b"", cause=b"other:a.b", text=b"x" * 256),
     1: made_alarm(0x00, 3, 0, 6, [b"a"], 0, cleared=7, id=b"", type=b"t", cause=b"sbi-overload", text=b"y" * 121, details=b""),
     4: made_alarm(0xFF, 1, 1, 1, [b"amf", b""], 0x00010203, cleared=0, id=b"c", type=b"t" * 64, cause=b"other:\xc3\xa9.x", text=b"z" * 256,
                   region=b"r" * 128),
     3: made_event(1, 0, 0, b"a", id=b"a", type=b"link", cause=b"lease-lost", principal=b"op", tenant=b"t", reason=b"why", correlation=b"c-1"),
 }, successes=2 ** 64 - 1, failures=3)
 
-# The other kinds of object and scope, absent shard, an empty chain and a free chain of two.
+# The other kinds of object and scope, absent shard, an empty chain and a free chain of two; an end in history that is long past.
 OTHER = register([2, 4, 3], [[], [9, 1, 8, 2], [4, 7, 3], [6, 5]], {
     9: made_alarm(1, 2, 4, 2, [b"a:b", b"c"], MOST_RAISES, id=b"i", type=b"t", cause=b"key-unavailable", text=b"\xf0\x9f\x9a\xa0"),
     1: made_alarm(2, 4, 5, 3, [b"", b"peer"], MOST_RAISES - 1, id=b"i", type=b"t", cause=b"other:x.y.z", text=b"", tenant=b"", slice=b"s"),
     8: made_alarm(3, 5, 2, 4, [b"nf", None], 1, id=b"i", type=b"t", cause=b"nrf-unreachable", text=b"", details=bytes(512)),
-    2: made_alarm(4, 5, 3, 7, [b"k"], 0x80000000, id=b"i", type=b"t", cause=b"certificate-expired", text=b"", cleared=1),
+    2: made_alarm(4, 5, 3, 7, [b"k"], 0x80000000, end=-2 ** 63, id=b"i", type=b"t", cause=b"certificate-expired", text=b"", cleared=1),
     4: made_event(0, 1, 1, b"tenant", id=b"i", type=b"t", cause=b"key-unavailable", principal=b"", reason=b"r" * 256),
     7: made_event(1, 1, 2, id=b"", type=b"", cause=b"other:a.b", principal=b"p", tenant=b"", reason=b"", correlation=b""),
     3: made_event(0, 0, 0, b"", id=b"i", type=b"t", cause=b"lease-lost", principal="\u65e5".encode(), reason=b"x"),
@@ -84,7 +85,7 @@ class Orders:
     def __init__(self, registers):
         self.head = bytes(0).join(registers)
         self.starts = list(itertools.accumulate(map(len, registers), initial=0))
-        self.orders, self.work, self.printed = [], bytearray(), []
+        self.orders, self.work, self.printed, self.tried = [], bytearray(), [], set()
 
     def order(self, kind, x, y):
         self.orders.append((kind, x, y))
@@ -116,7 +117,13 @@ class Orders:
                 row = ""
 
     def damaged(self, place, size, *writes):
-        """A register with some numbers changed."""
+        """A register with some numbers changed, unless the same bytes were tried before."""
+        data = bytearray(self.head[self.starts[place]:self.starts[place] + size])
+        for at, value in writes:
+            put(data, at, value.to_bytes(4, "big"))
+        if bytes(data) in self.tried:
+            return None
+        self.tried.add(bytes(data))
         self.load(place, size)
         for at, value in writes:
             self.write(at, value)
@@ -201,6 +208,28 @@ def raises(orders, place, data):
             orders.damaged(place, len(data), (WIDTH * index + LAYOUT["alarm"]["raises"], value))
 
 
+def ends(orders, place, data):
+    """Every state with and without an end, with wrong option bytes and with bytes of an end that is absent, in the first alarm of each chain; and
+    the bytes of an end in every record and in the header (M-105)."""
+    fields, size = LAYOUT["alarm"], len(data)
+    state, option, high, low = fields["state"], fields["end"]["present"] - 3, fields["end"]["at"], fields["end"]["at"] + 4
+    for index in (chain[0] for chain in sound_chains(data)[:2] if chain):
+        start = WIDTH * index
+        orders.load(place, size)
+        orders.write(start + high, 0)
+        for value, present, time in itertools.product(range(6), range(3), range(2)):
+            if (present, time) == (0, 0):
+                orders.write(start + state, value << 24 | word(data, start + state) & 0xFFFFFF)
+            if time == 0:
+                orders.write(start + option, word(data, start + option) & ~0xFF | present)
+            orders.write(start + low, time)
+            orders.check(size)
+    for index in range(size // WIDTH):
+        start = WIDTH * index
+        orders.damaged(place, size, (start + option, word(data, start + option) ^ 1))
+        orders.damaged(place, size, (start + low, word(data, start + low) ^ 1))
+
+
 def main():
     orders = Orders([SMALL, OTHER])
     for place, data in enumerate([SMALL, OTHER]):
@@ -208,6 +237,7 @@ def main():
         structure(orders, place, data)
         scratch(orders, place, data)
         raises(orders, place, data)
+        ends(orders, place, data)
     orders.load(0, len(SMALL))
     for mask in (0x01, 0x80, 0xFF):
         orders.flip(len(SMALL), mask)
