@@ -1,4 +1,4 @@
--- What the fields of operations 3 to 6 mean: offsets and lengths become the bytes there.
+-- What the fields of operations 3 to 6 and 13 mean: offsets and lengths become the bytes there.
 use Rattle.octets.specs.Bytes.{Bytes}
 use Rattle.definition.specs.Limits.{shortLimit, regionLimit, textLimit}
 use Rattle.definition.specs.Value.{PlainValue, ScopeValue, ActorValue, RequestValue, VerdictValue, PolicyValue}

@@ -1,6 +1,7 @@
-// The fields of an acknowledgement or a suppression, without and with a policy: operations 3 to 6.
+// The fields of an acknowledgement or a suppression, without and with a policy: operations 3 to 6 and 13.
 //
-// An acknowledgement and a suppression have the same fields, so that nothing here depends on the action: `call` keeps it beside them.
+// An acknowledgement and a suppression have the same fields, so that nothing here depends on the action: `call` keeps it beside them. The
+// end of operation 13 stands between the call's time and the other fields, so these can be read behind a time that was read before.
 // With a policy, a call says who asks (the actor), why and for what (the request), and what the authoriser answered (the verdict).
 // specs/Meaning.antt says which value of the definition each struct means, and within which limits its spans lie: who puts them into an
 // audit event relies on these.
@@ -9,7 +10,7 @@ use fields::StringKind;
 use model::OptSpan;
 use model::Record;
 use model::Span;
-ghost use Rattle.definition.specs.Parse.{plainFields, scope, actor, request, verdict, policyFields};
+ghost use Rattle.definition.specs.Parse.{plainFields, scope, actor, request, verdict, policyFrom, policyFields};
 ghost use Rattle.fields.specs.Cursor.{Says};
 ghost use Rattle.action_fields.specs.Meaning.{plainValue, scopeValue, actorValue, requestValue, verdictValue, policyValue};
 ghost use Rattle.action_fields.specs.Meaning.{plainWithin, scopeWithin, ActorWithin, RequestWithin, verdictWithin, PolicyWithin};
@@ -110,7 +111,7 @@ pub fn plain_at(call: &[u8], at: Cursor) -> PlainRead
     }
 }
 
-// ---- 5, 6 the same with policy
+// ---- 5, 6 the same with policy, and 13
 
 // A kind, and the string of the kinds 0 and 1.
 fn scope_at(call: &[u8], at: Cursor) -> ScopeRead
@@ -145,11 +146,10 @@ fn scope_at(call: &[u8], at: Cursor) -> ScopeRead
     }
 }
 
-fn actor_at(call: &[u8], at: Cursor) -> ActorRead
-    ensures { λ r. ⌜ Says (now (call .entry)) at actor actorValue ActorWithin (r .actor) (r .next) ⌝ }
+// Id, principal and tenant, behind the call's time.
+fn actor_at(call: &[u8], at: Cursor, time: u64) -> ActorRead
+    ensures { λ r. ⌜ Says (now (call .entry)) at (actor time) actorValue ActorWithin (r .actor) (r .next) ⌝ }
 {
-    let time = fields::number_at(call, at, 8);
-    let at = time.next;
     let id = fields::text_at(call, at, Record::SHORT);
     let at = id.next;
     let id = id.span;
@@ -161,7 +161,7 @@ fn actor_at(call: &[u8], at: Cursor) -> ActorRead
     let tenant = tenant.span;
     ActorRead {
         actor: Actor {
-            time: time.value,
+            time: time,
             id: id,
             principal: principal,
             tenant: tenant,
@@ -212,11 +212,11 @@ fn verdict_at(call: &[u8], at: Cursor) -> VerdictRead
     }
 }
 
-// The fields of operations 5 and 6 at a place.
-pub fn policy_at(call: &[u8], at: Cursor) -> PolicyRead
-    ensures { λ r. ⌜ Says (now (call .entry)) at policyFields policyValue PolicyWithin (r .policy) (r .next) ⌝ }
+// The fields of operations 5, 6 and 13 behind the call's time, and behind the end that 13 has.
+pub fn policy_from(call: &[u8], at: Cursor, time: u64) -> PolicyRead
+    ensures { λ r. ⌜ Says (now (call .entry)) at (policyFrom time) policyValue PolicyWithin (r .policy) (r .next) ⌝ }
 {
-    let actor = actor_at(call, at);
+    let actor = actor_at(call, at, time);
     let at = actor.next;
     let actor = actor.actor;
     let request = request_at(call, at);
@@ -233,4 +233,13 @@ pub fn policy_at(call: &[u8], at: Cursor) -> PolicyRead
         },
         next: at,
     }
+}
+
+// The fields of operations 5 and 6 at a place.
+pub fn policy_at(call: &[u8], at: Cursor) -> PolicyRead
+    ensures { λ r. ⌜ Says (now (call .entry)) at policyFields policyValue PolicyWithin (r .policy) (r .next) ⌝ }
+{
+    let time = fields::number_at(call, at, 8);
+    let at = time.next;
+    policy_from(call, at, time.value)
 }

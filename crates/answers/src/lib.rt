@@ -11,14 +11,14 @@ use model::Answer;
 use model::CauseSpan;
 use model::Record;
 ghost use mathlib.Core.Path.{_≡_};
-ghost use mathlib.Core.List.{_++_};
+ghost use mathlib.Core.List.{[], _++_};
 ghost use Prim.Native.Nat.{_+_, _≤_, _<_};
 ghost use lib.ListN.{length};
 ghost use Rattle.octets.specs.Bytes.{be32};
 ghost use Rattle.octets.specs.Put.{Put};
 ghost use Rattle.definition.specs.Book.{payloadWidth};
 ghost use Rattle.definition.specs.Key.{string, hex};
-ghost use Rattle.definition.specs.Answer.{ClearWithoutActive, ActiveLimitExceeded, Expired, Summary, head, headBytes, answerBytes};
+ghost use Rattle.definition.specs.Answer.{ClearWithoutActive, ActiveLimitExceeded, Summary, head, headBytes, answerBytes};
 ghost use Rattle.model.specs.Meaning.{causePart, causeWithin};
 ghost use Rattle.answers.specs.Meaning.{Answered, entry};
 
@@ -89,10 +89,10 @@ pub fn put_text(answer: &mut [u8], code: u8, s: &[u8]) -> usize
     strings::put_string(answer, n, s)
 }
 
-// How many alarms an expiry took: operation 7.
+// How many alarms an expiry or a lift took: operations 7 and 14.
 pub fn put_number(answer: &mut [u8], n: u64) -> usize
     requires { ⌜ 16 ≤ length (now answer) ⌝ }
-    ensures { λ r. ⌜ Put (now (answer .entry)) 0 (answerBytes (Expired n)) r (now (answer .exit)) ⌝ }
+    ensures { λ r. ⌜ Answered (now (answer .entry)) (head 11 0 n) [] r (now (answer .exit)) ⌝ }
 {
     put_head(answer, 11, 0, n)
 }

@@ -1,8 +1,8 @@
 // A call read whole: its operation byte, then its fields in order, and nothing after.
 //
 // `parse` answers the operation with its fields, as numbers and as spans of the call's bytes; or, as `Refused`, the number of the call's
-// first fault, 23 to 29 or 33. What the answer means on these bytes, `meaning` in specs/Meaning.antt, is what the definition's `parseCall`
-// gives (Parse.antt), and every span lies in the call, within its limit: operations look at their bytes and test nothing.
+// first fault, 23 to 29, 33 or 34. What the answer means on these bytes, `meaning` in specs/Meaning.antt, is what the definition's
+// `parseCall` gives (Parse.antt), and every span lies in the call, within its limit: operations look at their bytes and test nothing.
 //
 // Each operation has a reader, `.._at`, which reads by the crate of its fields and answers a call. A new operation is a variant of
 // `Parsed`, with its lines in `meaning` and `parsedWithin`, a reader, and an arm of `operation_at`.
@@ -14,6 +14,7 @@ use fields::Cursor;
 use fields::NumRead;
 use fields::StringKind;
 use model::Action;
+use model::Deed;
 use model::OptSpan;
 use model::Record;
 use raise_fields::Clear;
@@ -24,10 +25,12 @@ ghost use mathlib.Core.Path.{_≡_};
 ghost use mathlib.Core.Bool.{_||_};
 ghost use lib.Dec.{leb, eqb};
 ghost use Rattle.definition.specs.Reader.{number, into};
-ghost use Rattle.definition.specs.Value.{CallValue};
+ghost use Rattle.definition.specs.Value.{CallValue, untimed};
 ghost use Rattle.definition.specs.Parse.{raiseFields, clearFields, plainFields, policyFields, severityOrAll, historyFields};
-ghost use Rattle.definition.specs.Parse.{fieldsOf, whole, parseCall};
+ghost use Rattle.definition.specs.Parse.{untilLater, untilFields, fieldsOf, whole, parseCall};
+ghost use Rattle.octets.specs.Bytes.{Bytes};
 ghost use Rattle.model.specs.Meaning.{actionOf};
+ghost use Rattle.action_fields.specs.Meaning.{policyValue, PolicyWithin};
 ghost use Rattle.fields.specs.Cursor.{outAt};
 ghost use Rattle.call.specs.Meaning.{meaning, parsedWithin, SaysCall, Means};
 
@@ -36,13 +39,14 @@ pub enum Parsed {
     Raise(Raise),
     Clear(Clear),
     Plain(Action, Plain),
-    Policy(Action, Policy),
+    Policy(Deed, Policy),
     Expire(u64),
     Active(u8),
     History { tenant: OptSpan, slice: OptSpan },
     Counts,
     Summary,
     TakeAudit(u16),
+    Lift(u64),
     Refused(u8),
 }
 
@@ -87,16 +91,50 @@ fn plain_at(call: &[u8], at: Cursor, action: Action) -> CallRead
 }
 
 fn policy_at(call: &[u8], at: Cursor, action: Action) -> CallRead
-    ensures { λ r. ⌜ SaysCall (now (call .entry)) at (into (CallValue.policy (actionOf action)) policyFields) r ⌝ }
+    ensures { λ r.
+        ⌜ SaysCall (now (call .entry)) at (into (CallValue.policy (untimed (actionOf action))) policyFields) r ⌝ }
 {
     let PolicyRead { policy, next } = action_fields::policy_at(call, at);
     CallRead {
-        parsed: Parsed::Policy(action, policy),
+        parsed: Parsed::Policy(Deed::Untimed(action), policy),
         next: next,
     }
 }
 
-// ---- 7 expire, 8 active list, 9 history, 12 take audit
+// ---- 13 suppress until
+
+// All fields were read: a suppression until its end, or 34 where that is not later than the call's time. The 34 is a call's value and no
+// fault at a place: a fault of a field and bytes left over come before it.
+fn until_later(time: u64, end: u64, policy: Policy) -> Parsed
+    ensures { λ r.
+        ⌜ ((call : Bytes) → meaning call r ≡ untilLater time end (policyValue call policy))
+        × ((call : Bytes) → PolicyWithin call policy → parsedWithin call r) ⌝ }
+{
+    if time::is_before(time, end) {
+        Parsed::Policy(Deed::Until(end), policy)
+    } else {
+        Parsed::Refused(34)
+    }
+}
+
+// The call's time, the end, and the fields that operation 6 has behind its time.
+fn until_at(call: &[u8], at: Cursor) -> CallRead
+    ensures { λ r. ⌜ SaysCall (now (call .entry)) at untilFields r ⌝ }
+{
+    let time = fields::number_at(call, at, 8);
+    let at = time.next;
+    let time = time.value;
+    let end = fields::number_at(call, at, 8);
+    let at = end.next;
+    let end = end.value;
+    let PolicyRead { policy, next } = action_fields::policy_from(call, at, time);
+    CallRead {
+        parsed: until_later(time, end, policy),
+        next: next,
+    }
+}
+
+// ---- 7 expire, 8 active list, 9 history, 12 take audit, 14 lift
 
 // The cutoff time.
 fn expire_at(call: &[u8], at: Cursor) -> CallRead
@@ -157,6 +195,17 @@ fn take_audit_at(call: &[u8], at: Cursor) -> CallRead
     }
 }
 
+// The cutoff time.
+fn lift_at(call: &[u8], at: Cursor) -> CallRead
+    ensures { λ r. ⌜ SaysCall (now (call .entry)) at (into CallValue.lift (number 8)) r ⌝ }
+{
+    let NumRead { value, next } = fields::number_at(call, at, 8);
+    CallRead {
+        parsed: Parsed::Lift(value),
+        next: next,
+    }
+}
+
 // ---- the whole call
 
 // The fields of an operation.
@@ -182,6 +231,8 @@ fn operation_at(call: &[u8], at: Cursor, op: u8) -> CallRead
             next: at,
         },
         12 => take_audit_at(call, at),
+        13 => until_at(call, at),
+        14 => lift_at(call, at),
         _ => CallRead {
             parsed: Parsed::Refused(23),
             next: fields::refuse_unless(at, false, 23),

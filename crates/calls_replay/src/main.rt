@@ -1,8 +1,8 @@
 // Reads calls from the standard input, each behind its length in four bytes, and writes a line for each: what the parser says of it.
 //
-// The parser is proved to do what the definition says; this program is the witness that the definition says what document 01 means. The
-// files `stdin` and `stdout` are made by `python3 tests/calls/make.py`: calls good and damaged, and the lines of another reader of
-// document 01. tests/calls/reading.py says how a line is written.
+// The parser is proved to do what the definition says; this program is the witness that the definition says what documents 01 and 02
+// mean. The files `stdin` and `stdout` are made by `python3 tests/calls/make.py`: calls good and damaged, and the lines of another reader
+// of these documents. tests/calls/reading.py says how a line is written.
 //
 // A line is a word for the operation and a word for each of its fields, in their order: a number, or a string's bytes in hex behind an x.
 // Nothing is claimed of what is written but that the program is safe and ends.
@@ -15,6 +15,7 @@ use libc::STDOUT_FILENO;
 use model::Action;
 use model::AffectedObject;
 use model::CauseSpan;
+use model::Deed;
 use model::KeyFields;
 use model::OptSpan;
 use model::Places;
@@ -48,6 +49,8 @@ fn say_operation(op: u8) {
         10 => say(b"counts"),
         11 => say(b"summary"),
         12 => say(b"take-audit"),
+        13 => say(b"suppress-until"),
+        14 => say(b"lift"),
         _ => say(b"refused"),
     }
 }
@@ -218,15 +221,28 @@ fn show_scope(call: &[u8], s: Scope) {
     }
 }
 
-fn show_policy(call: &[u8], action: Action, p: Policy) {
+// The word of a policy call, its time, and behind it the end that operation 13 has.
+fn show_deed(deed: Deed, time: u64) {
+    match deed {
+        Deed::Untimed(action) => {
+            say_action(action, 5, 6);
+            show_number(time);
+        }
+        Deed::Until(end) => {
+            show_numbered(13, time);
+            show_number(end);
+        }
+    }
+}
+
+fn show_policy(call: &[u8], deed: Deed, p: Policy) {
     let a = p.actor;
     let r = p.request;
     let v = p.verdict;
     let tenant = a.tenant;
     let scope = r.scope;
     let correlation = r.correlation;
-    say_action(action, 5, 6);
-    show_number(a.time);
+    show_deed(deed, a.time);
     show_string(call, a.id);
     show_string(call, a.principal);
     show_option(call, tenant);
@@ -251,13 +267,14 @@ fn show(call: &[u8]) {
         Parsed::Raise(r) => show_raise(call, r),
         Parsed::Clear(c) => show_clear(call, c),
         Parsed::Plain(action, p) => show_plain(call, action, p),
-        Parsed::Policy(action, p) => show_policy(call, action, p),
+        Parsed::Policy(deed, p) => show_policy(call, deed, p),
         Parsed::Expire(t) => show_numbered(7, t),
         Parsed::Active(v) => show_numbered(8, v as u64),
         Parsed::History { tenant, slice } => show_history(call, tenant, slice),
         Parsed::Counts => say_operation(10),
         Parsed::Summary => say_operation(11),
         Parsed::TakeAudit(n) => show_numbered(12, n as u64),
+        Parsed::Lift(t) => show_numbered(14, t),
         Parsed::Refused(k) => show_numbered(0, k as u64),
     }
 }

@@ -1,7 +1,7 @@
-// An alarm changed as a step changes it: by an action, a clear, an expiry, or a raise that finds its key active.
+// An alarm changed as a step changes it: by an action, a clear, an expiry, the end of its suppression, or a raise that finds its key active.
 //
 // Each function turns the payload of a sound alarm into that of the alarm which the definition's step makes of it
-// (`actedOn`, `clearedBy`, `expiredBy`, `updatedBy` in definition, specs/Steps.antt). It is a row of setters of
+// (`actedOn`, `clearedBy`, `expiredBy`, `liftedBy`, `updatedBy` in definition, specs/Steps.antt). It is a row of setters of
 // `record`, in which each gives what its field becomes; specs/ChangeLaws.antt joins them to the step's change. No
 // function looks at a byte. What a raise brings to the alarm is `News`, so that this crate does not know the parser of
 // raises.
@@ -11,16 +11,18 @@ ghost use lib.ListN.{length};
 ghost use Rattle.definition.specs.Limits.{textLimit, detailsLimit};
 ghost use Rattle.definition.specs.Book.{payloadWidth};
 ghost use Rattle.definition.specs.Record.{lastActive, alarmBytes, readAlarm};
-ghost use Rattle.definition.specs.Steps.{updatedState, oneMoreRaise, clearedBy, actionState, actedOn, expiredBy};
-ghost use Rattle.definition.specs.Alarm.{withText, withDetails};
-ghost use Rattle.model.specs.Meaning.{part, optPart, within, optWithin, actionOf};
+ghost use Rattle.definition.specs.Steps.{updatedState, oneMoreRaise, clearedBy, actionState, actedOn, expiredBy, liftedBy};
+ghost use Rattle.definition.specs.Value.{deedEnd};
+ghost use Rattle.definition.specs.Alarm.{withText, withDetails, withEnd};
+ghost use Rattle.model.specs.Meaning.{part, optPart, within, optWithin, actionOf, deedOf};
 ghost use Rattle.history.specs.Meaning.{IsAlarm};
 ghost use Rattle.changes.specs.Meaning.{Turns, NewsWithin, newsOf, updatedWith};
 use model::Action;
+use model::Deed;
 use model::OptSpan;
 use model::Span;
 
-// ---- "Plain 3, 4": the state of the action, and the later time
+// ---- "Plain 3, 4": the state of the action, the later time, and operation 13's end
 
 fn state_of(action: Action) -> u8
     ensures { λ r. ⌜ r ≡ actionState (actionOf action) ⌝ }
@@ -31,16 +33,28 @@ fn state_of(action: Action) -> u8
     }
 }
 
-pub fn acted_on(p: &mut [u8], action: Action, time: u64)
-    requires { ⌜ IsAlarm lastActive (now p) ⌝ }
-    ensures { λ _. ⌜ now (p .exit) ≡ alarmBytes (actedOn (actionOf action) time (readAlarm (now (p .entry)))) ⌝ }
+// The end of a timed suppression; any other removes it.
+fn set_end(p: &mut [u8], deed: Deed)
+    requires { ⌜ length (now p) ≡ payloadWidth ⌝ }
+    ensures { λ _. ⌜ Turns (withEnd (deedEnd (deedOf deed))) (now (p .entry)) (now (p .exit)) ⌝ }
 {
-    let t = time::late(time, record::raised_at(p));
-    record::set_state(p, state_of(action));
-    record::set_updated(p, t);
+    match deed {
+        Deed::Untimed(_) => record::no_end(p),
+        Deed::Until(end) => record::set_end(p, end),
+    }
 }
 
-// ---- "Clear": state 4, severity 0, cleared_at and updated_at late
+pub fn acted_on(p: &mut [u8], deed: Deed, time: u64)
+    requires { ⌜ IsAlarm lastActive (now p) ⌝ }
+    ensures { λ _. ⌜ now (p .exit) ≡ alarmBytes (actedOn (deedOf deed) time (readAlarm (now (p .entry)))) ⌝ }
+{
+    let t = time::late(time, record::raised_at(p));
+    record::set_state(p, state_of(model::action_of(deed)));
+    record::set_updated(p, t);
+    set_end(p, deed);
+}
+
+// ---- "Clear": state 4, severity 0, cleared_at and updated_at late, no end
 
 pub fn cleared_by(p: &mut [u8], time: u64)
     requires { ⌜ IsAlarm lastActive (now p) ⌝ }
@@ -51,9 +65,10 @@ pub fn cleared_by(p: &mut [u8], time: u64)
     record::set_state(p, 4);
     record::set_updated(p, t);
     record::set_cleared(p, t);
+    record::no_end(p);
 }
 
-// ---- "Expire": state 5, updated_at and cleared_at the cutoff
+// ---- "Expire": state 5, updated_at and cleared_at the cutoff, no end
 
 pub fn expired_by(p: &mut [u8], cutoff: u64)
     requires { ⌜ IsAlarm lastActive (now p) ⌝ }
@@ -62,6 +77,19 @@ pub fn expired_by(p: &mut [u8], cutoff: u64)
     record::set_state(p, 5);
     record::set_updated(p, cutoff);
     record::set_cleared(p, cutoff);
+    record::no_end(p);
+}
+
+// ---- operation 14: state 1, the later of cutoff and raised_at, no end
+
+pub fn lifted_by(p: &mut [u8], cutoff: u64)
+    requires { ⌜ IsAlarm lastActive (now p) ⌝ }
+    ensures { λ _. ⌜ now (p .exit) ≡ alarmBytes (liftedBy cutoff (readAlarm (now (p .entry)))) ⌝ }
+{
+    let t = time::late(cutoff, record::raised_at(p));
+    record::set_state(p, 1);
+    record::set_updated(p, t);
+    record::no_end(p);
 }
 
 // ---- "Raise, key active": severity, text, details replaced, updated_at late, 0 and 1 become 1, 2 and 3 stay; one more raise

@@ -1,4 +1,4 @@
--- "Answer bytes": `AlarmOpResult` in its order, then the answers of operations 7 to 12; and their bytes.
+-- "Answer bytes": `AlarmOpResult` in its order, then the answers of operations 7, 14 and 8 to 12; and their bytes.
 use Prim.Native.Nat.{ℕ}
 use mathlib.Core.List.{List, [], _∷_, _++_}
 use lib.ListN.{length}
@@ -33,6 +33,7 @@ pub data Answer : Type 0 where
   AuditFailed : Bytes → Answer
   NotFound : Bytes → Answer
   Expired : ℕ → Answer
+  Lifted : ℕ → Answer
   Alarms : List Alarm → Answer
   Counts : List Count → Answer
   Summary : Totals → Answer
@@ -49,7 +50,7 @@ abbrev pub head : ℕ → ℕ → ℕ → Head
 head c n v = record { code = c; count = n; number = v }
 
 -- "Codes 1 to 10 are `AlarmOpResult` in its order; 11 for ops 7 to 12"; "Number is 0 and count 0 unless given; alarms count 1"; of op 10
--- "the head's item count is the number of these entries"
+-- "the head's item count is the number of these entries"; M-105: of op 14 "the number is reported under code 11"
 abbrev pub headOf : Answer → Head
 headOf (Raised a) = head 1 1 0
 headOf (Updated a) = head 2 1 0
@@ -62,6 +63,7 @@ headOf (Unauthorized m) = head 8 0 0
 headOf (AuditFailed m) = head 9 0 0
 headOf (NotFound i) = head 10 0 0
 headOf (Expired n) = head 11 0 n
+headOf (Lifted n) = head 11 0 n
 headOf (Alarms l) = head 11 (length l) 0
 headOf (Counts l) = head 11 (length l) 0
 headOf (Summary t) = head 11 0 (t .active)
@@ -105,6 +107,7 @@ body (Unauthorized m) = string m
 body (AuditFailed m) = string m
 body (NotFound i) = string i
 body (Expired n) = []
+body (Lifted n) = []
 body (Alarms l) = alarmRecords l
 body (Counts l) = countEntries l
 body (Summary t) = t .worst ∷ t .readiness ∷ (be64 (t .successes) ++ be64 (t .failures))

@@ -26,7 +26,7 @@ raised m = cond (isAnswered m && eqb (code m) 1) 1 0
 abbrev pub cleared : Made → ℕ
 cleared m = cond (isAnswered m && eqb (code m) 3) 1 0
 
--- "the numbers that expire calls gave": those of operation 7's answers
+-- "the numbers that expire calls gave": those of operation 7's answers. M-105's operation 14 tells of alarms that stay active
 abbrev pub expired : Made → ℕ
 expired m = cond (isAnswered m && eqb (operation m) 7) (numberAt 8 (m .answer) 8) 0
 

@@ -9,7 +9,8 @@ use Rattle.octets.specs.Bytes.{Bytes}
 use Rattle.definition.specs.Limits.{shortLimit, regionLimit, textLimit, detailsLimit, codePointLimit}
 use Rattle.definition.specs.Utf8.{codePoints, atMost}
 use Rattle.definition.specs.Reader.{Out, got, bad, Reader, _>>=_, give, refuse, into, number, choice, blob, text, optional, causeText}
-use Rattle.definition.specs.Value.{ObjectValue, PlacesValue, KeyValue, RaiseHeadValue, RaiseValue, ClearValue, PlainValue, ScopeValue, ActorValue, RequestValue, VerdictValue, PolicyValue, CallValue, acknowledging, suppressing}
+use Rattle.definition.specs.Value.{ObjectValue, PlacesValue, KeyValue, RaiseHeadValue, RaiseValue, ClearValue, PlainValue, ScopeValue, ActorValue, RequestValue, VerdictValue, PolicyValue, CallValue, acknowledging, suppressing, untimed, until}
+use Rattle.definition.specs.Alarm.{before}
 
 -- ---- "An affected object is one of eight kinds, 1 to 8 as `AffectedObject` lists them, with its strings in order; kind 4's shard is
 -- ---- optional, kind 8 ends with a u16 queue."
@@ -141,10 +142,9 @@ plainFields = do
 -- ---- 5, 6 the same with policy: time, id, principal, tenant?, reason, scope, correlation?, critical-allowed (0 or 1), authorised
 -- ---- (0 or 1), denial message
 
--- time, id, principal, tenant?
-unfoldable pub actor : Reader ActorValue
-actor = do
-  time ← number 8
+-- id, principal, tenant?, behind the call's time
+unfoldable pub actor : ℕ → Reader ActorValue
+actor time = do
   id ← text shortLimit
   principal ← text shortLimit
   tenant ← optional (text shortLimit)
@@ -166,12 +166,18 @@ verdict = do
   denial ← text regionLimit
   give (record { critical = critical; authorised = authorised; denial = denial })
 
-unfoldable pub policyFields : Reader PolicyValue
-policyFields = do
-  a ← actor
+-- the fields behind the time
+unfoldable pub policyFrom : ℕ → Reader PolicyValue
+policyFrom time = do
+  a ← actor time
   r ← request
   v ← verdict
   give (record { actor = a; request = r; verdict = v })
+
+unfoldable pub policyFields : Reader PolicyValue
+policyFields = do
+  time ← number 8
+  policyFrom time
 
 -- ---- 8 active list: severity, or 255 for all
 
@@ -188,7 +194,21 @@ historyFields = do
   slice ← optional (text shortLimit)
   give (CallValue.history tenant slice)
 
--- ---- the table: 7 expire: cutoff time; 10 counts, 11 summary: none; 12 take audit: u16 n. 23: "op not 1 to 12"
+-- ---- 13, M-105: "operation 6 with one more field, an end time, directly after the call's time"
+
+-- 34: "an end not later than the call's time, after all field checks and before 30": all fields are read, and what they say is a refused call
+abbrev pub untilLater : ℕ → ℕ → PolicyValue → CallValue
+untilLater time end p = cond (before time end) (CallValue.policy (until end) p) (CallValue.refused 34)
+
+unfoldable pub untilFields : Reader CallValue
+untilFields = do
+  time ← number 8
+  end ← number 8
+  p ← policyFrom time
+  give (untilLater time end p)
+
+-- ---- the table: 7 expire: cutoff time; 10 counts, 11 summary: none; 12 take audit: u16 n; M-105: "Operation 14 carries a cutoff", and "23
+-- ---- allows 1 to 14"
 
 unfoldable pub fieldsOf : ℕ → Reader CallValue
 fieldsOf op =
@@ -196,15 +216,17 @@ fieldsOf op =
     (cond (eqb op 2) (into CallValue.clear clearFields)
     (cond (eqb op 3) (into (CallValue.plain acknowledging) plainFields)
     (cond (eqb op 4) (into (CallValue.plain suppressing) plainFields)
-    (cond (eqb op 5) (into (CallValue.policy acknowledging) policyFields)
-    (cond (eqb op 6) (into (CallValue.policy suppressing) policyFields)
+    (cond (eqb op 5) (into (CallValue.policy (untimed acknowledging)) policyFields)
+    (cond (eqb op 6) (into (CallValue.policy (untimed suppressing)) policyFields)
     (cond (eqb op 7) (into CallValue.expire (number 8))
     (cond (eqb op 8) (into CallValue.active severityOrAll)
     (cond (eqb op 9) historyFields
     (cond (eqb op 10) (give CallValue.counts)
     (cond (eqb op 11) (give CallValue.summary)
     (cond (eqb op 12) (into CallValue.takeAudit (number 2))
-    (refuse 23))))))))))))
+    (cond (eqb op 13) untilFields
+    (cond (eqb op 14) (into CallValue.lift (number 8))
+    (refuse 23))))))))))))))
 
 -- "nothing after": 24 for "bytes left over"
 abbrev pub whole : Out CallValue → CallValue

@@ -60,9 +60,9 @@ pub record MadeApart (v v′ : ℕ) (b b′ : Bytes) (l l′ : List Made) : Type
 
 -- ---- "Policy calls are left aside, since a critical severity may stop a suppression."
 
--- "5, 6 the same with policy"
+-- "5, 6 the same with policy"; M-105: "Operation 13 is operation 6"
 abbrev pub isPolicy : ℕ → Bool
-isPolicy op = eqb op 5 || eqb op 6
+isPolicy op = eqb op 5 || eqb op 6 || eqb op 13
 
 -- no policy call is answered. Refused calls change nothing, and may stand in a list whatever their first byte is
 abbrev pub NoPolicy : List Made → Type 0
@@ -91,7 +91,7 @@ pub record Bounded (v v′ : ℕ) (b b′ : Bytes) : Type 0 where
   pub first : (u : ℕ) → (u ≡ v → ⊥) → activeCount u b ≤ activeCount u b′
   pub second : (u : ℕ) → (u ≡ v′ → ⊥) → activeCount u b′ ≤ activeCount u b
 
--- operations 1 to 4, 7 and 11: those that ask for a record's room, without policy calls
+-- operations 1 to 4, 7, 11 and 14: those that ask for a record's room, without policy calls
 abbrev pub keepsHead : ℕ → Bool
 keepsHead op = asksRecord op && not (isPolicy op)
 
@@ -105,10 +105,11 @@ pub record BoundedAfter (v v′ : ℕ) (m m′ : Made) : Type 0 where
   pub registers : Bounded v v′ (m .register) (m′ .register)
   pub heads : T (keepsHead (operation m)) → (m .number ≡ m′ .number) × (answerHead m ≡ answerHead m′)
 
--- ---- the request's own premises: "ops 1 to 4 and 7 to 12 .., with answer slices long enough for every answer", so that none gives 30
+-- ---- the request's own premises: "ops 1 to 4 and 7 to 12 .., with answer slices long enough for every answer", so that none gives 30; M-105's
+-- ---- operation 14 stands beside them, and 13 is left aside as a policy call
 
 abbrev pub requestedOperations : List ℕ
-requestedOperations = 1 ∷ 2 ∷ 3 ∷ 4 ∷ 7 ∷ 8 ∷ 9 ∷ 10 ∷ 11 ∷ 12 ∷ []
+requestedOperations = 1 ∷ 2 ∷ 3 ∷ 4 ∷ 7 ∷ 8 ∷ 9 ∷ 10 ∷ 11 ∷ 12 ∷ 14 ∷ []
 
 abbrev pub Requested : List Made → Type 0
 Requested [] = Unit {0}
@@ -117,7 +118,7 @@ Requested (m ∷ l) = Among (operation m) requestedOperations × (m .number ≡ 
 -- ---- how far it reaches
 
 pub record Reach : Type 0 where
-  -- "from equal fresh registers", opened with the same limits. With equal answer lengths it holds for all lengths: operations 1 to 4 and 7 ask
+  -- "from equal fresh registers", opened with the same limits. With equal answer lengths it holds for all lengths: operations 1 to 4, 7 and 14 ask
   -- for the same room in both lists, and the others leave the active chain as it is, answered or not
   pub fresh : (a h e v v′ : ℕ) (b b′ : Bytes) (l l′ : List Made) → Fresh a h e b → Fresh a h e b′ → (d : MadeApart v v′ b b′ l l′) →
       NoPolicy (behind d l) → NoPolicy (behind d l′) → AtEach (BoundedAfter v v′) l l′

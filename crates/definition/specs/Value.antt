@@ -1,7 +1,7 @@
 -- The values that a call holds: numbers and byte strings, and no offsets.
 use Prim.Native.Nat.{ℕ}
 use Rattle.octets.specs.Bytes.{Bytes}
-use mathlib.Core.Option.{Option}
+use mathlib.Core.Option.{Option, none, some}
 
 -- "An affected object is one of eight kinds, 1 to 8 as `AffectedObject` lists them, with its strings in order; kind 4's shard is optional,
 -- kind 8 ends with a u16 queue"
@@ -78,7 +78,7 @@ pub record VerdictValue : Type 0 where
   pub authorised : ℕ
   pub denial : Bytes
 
--- 5, 6 the same with policy
+-- 5, 6 the same with policy; 13
 pub record PolicyValue : Type 0 where
   pub actor : ActorValue
   pub request : RequestValue
@@ -89,18 +89,32 @@ pub data Action : Type 0 where
   acknowledging : Action
   suppressing : Action
 
--- the twelve operations, and the number of a call's first fault
+-- what a policy call asks for: an action as in 5 and 6; M-105: "Operation 13 is operation 6 with one more field, an end time"
+pub data Deed : Type 0 where
+  untimed : Action → Deed
+  until : ℕ → Deed
+
+abbrev pub deedAction : Deed → Action
+deedAction (untimed x) = x
+deedAction (until end) = suppressing
+
+abbrev pub deedEnd : Deed → Option ℕ
+deedEnd (untimed x) = none
+deedEnd (until end) = some end
+
+-- the fourteen operations, and the number of a call's first fault
 pub data CallValue : Type 0 where
   raise : RaiseValue → CallValue
   clear : ClearValue → CallValue
   plain : Action → PlainValue → CallValue
-  policy : Action → PolicyValue → CallValue
+  policy : Deed → PolicyValue → CallValue
   expire : ℕ → CallValue
   active : ℕ → CallValue
   history : Option Bytes → Option Bytes → CallValue
   counts : CallValue
   summary : CallValue
   takeAudit : ℕ → CallValue
+  lift : ℕ → CallValue
   refused : ℕ → CallValue
 
 -- the operation's number; 0 for a call that the parser refused
@@ -109,12 +123,14 @@ opOf (CallValue.raise c) = 1
 opOf (CallValue.clear c) = 2
 opOf (CallValue.plain acknowledging p) = 3
 opOf (CallValue.plain suppressing p) = 4
-opOf (CallValue.policy acknowledging p) = 5
-opOf (CallValue.policy suppressing p) = 6
+opOf (CallValue.policy (untimed acknowledging) p) = 5
+opOf (CallValue.policy (untimed suppressing) p) = 6
+opOf (CallValue.policy (until end) p) = 13
 opOf (CallValue.expire t) = 7
 opOf (CallValue.active v) = 8
 opOf (CallValue.history t l) = 9
 opOf CallValue.counts = 10
 opOf CallValue.summary = 11
 opOf (CallValue.takeAudit k) = 12
+opOf (CallValue.lift t) = 14
 opOf (CallValue.refused k) = 0

@@ -10,6 +10,10 @@ use Rattle.definition.specs.Value.{ObjectValue, nfInstance, interface, peer, se
 use Rattle.definition.specs.Value as Value
 use Rattle.model.specs.declared.Action.{Action}
 use Rattle.model.specs.declared.Action.the-variants.{Acknowledge, Suppress}
+use Rattle.model.specs.declared.Deed.{Deed}
+use Rattle.model.specs.declared.Deed.the-variants.{Untimed, Until}
+use Rattle.model.specs.declared.OptTime.{OptTime}
+use Rattle.model.specs.declared.OptTime.the-variants as T
 use Rattle.model.specs.declared.Span.{Span}
 use Rattle.model.specs.declared.OptSpan.{OptSpan}
 use Rattle.model.specs.declared.OptSpan.the-variants.{Absent, Present}
@@ -85,8 +89,18 @@ pub record KeyWithin (call : Bytes) (k : KeyFields) : Type 0 where
   pub object : objectWithin call (k .object)
   pub places : PlacesWithin call (k .places)
 
--- ---- actions
+-- ---- actions, and what a policy call asks for
 
 abbrev pub actionOf : Action → Value.Action
 actionOf Acknowledge = Value.acknowledging
 actionOf Suppress = Value.suppressing
+
+abbrev pub deedOf : Deed → Value.Deed
+deedOf (Untimed x) = Value.untimed (actionOf x)
+deedOf (Until end) = Value.until end
+
+-- ---- times
+
+abbrev pub optTime : OptTime → Option ℕ
+optTime T.Absent = none
+optTime (T.Present t) = some t

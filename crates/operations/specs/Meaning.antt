@@ -19,7 +19,7 @@ pub record Called (b : Bytes) (e : Ends) (call : Bytes) (p : Parsed) : Type 0 wh
   pub within : parsedWithin call p
   pub legal : LegalCall (meaning call p)
 
--- 30: "shorter than 1,552 (ops 1 to 7, 11)"; n is the answer slice's length
+-- 30: "shorter than 1,552 (ops 1 to 7, 11)", and M-105's 13 and 14; n is the answer slice's length
 abbrev pub HasRoom : CallValue → ℕ → Type 0
 HasRoom c n = asksRecord (opOf c) ≡ true → 1552 ≤ n
 

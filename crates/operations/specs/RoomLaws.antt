@@ -1,4 +1,4 @@
--- 30, "shorter than 1,552 (ops 1 to 7, 11)", as one test before the step; and the dispatch's arms in the words of the definition.
+-- 30, "shorter than 1,552 (ops 1 to 7, 11)", and M-105's 13 and 14, as one test before the step; and the dispatch's arms in the words of the definition.
 use Prim.Native.Nat.{ℕ, _≤_, _<_}
 use mathlib.Core.Path.{_≡_, refl, ap}
 use mathlib.Core.Bool.{Bool, true, false, cond, _&&_}
@@ -6,7 +6,7 @@ use native.Mathlib.Omega.{arith}
 use borrow.Author.Tests.{lt-ltb, le-ltb, ltb-true, ltb-false}
 use lib.Dec.{ltb}
 use Rattle.octets.specs.Bytes.{Bytes}
-use Rattle.definition.specs.Value.{PlainValue, PolicyValue, CallValue, Action, acknowledging, suppressing, opOf}
+use Rattle.definition.specs.Value.{PlainValue, PolicyValue, CallValue, Action, acknowledging, suppressing, Deed, untimed, until, opOf}
 use Rattle.definition.specs.Station.{Step, _>>=_}
 use Rattle.definition.specs.Answer.{Answer}
 use Rattle.definition.specs.Steps.{plain, policy}
@@ -44,22 +44,23 @@ module _ (c : CallValue) (n : ℕ) where
 
 -- ---- the arms
 
--- operations 3 to 6 ask for a record, whichever the action is
+-- operations 3 to 6 and 13 ask for a record, whatever is done
 pub plain-asks : (x : Action) (p : PlainValue) → asksRecord (opOf (CallValue.plain x p)) ≡ true
 plain-asks acknowledging p = refl
 plain-asks suppressing p = refl
 
-pub policy-asks : (x : Action) (p : PolicyValue) → asksRecord (opOf (CallValue.policy x p)) ≡ true
-policy-asks acknowledging p = refl
-policy-asks suppressing p = refl
+pub policy-asks : (d : Deed) (p : PolicyValue) → asksRecord (opOf (CallValue.policy d p)) ≡ true
+policy-asks (untimed acknowledging) p = refl
+policy-asks (untimed suppressing) p = refl
+policy-asks (until end) p = refl
 
 -- so they are their steps
 module _ (n : ℕ) (y : Reply) (b b′ a a′ : Bytes) where
   pub plain-steps : (x : Action) (p : PlainValue) → Replies y (plain x p) b b′ a a′ → Replies y (withRoom (CallValue.plain x p) n) b b′ a a′
   plain-steps x p w = rw (plain-asks x p) w
 
-  pub policy-steps : (x : Action) (p : PolicyValue) → Replies y (policy x p) b b′ a a′ → Replies y (withRoom (CallValue.policy x p) n) b b′ a a′
-  policy-steps x p w = rw (policy-asks x p) w
+  pub policy-steps : (d : Deed) (p : PolicyValue) → Replies y (policy d p) b b′ a a′ → Replies y (withRoom (CallValue.policy d p) n) b b′ a a′
+  policy-steps d p w = rw (policy-asks d p) w
 
 -- what the parser refused stays refused
 pub stays-refused : (k n : ℕ) (b a : Bytes) → Refuses (withRoom (CallValue.refused k) n) b b a a k

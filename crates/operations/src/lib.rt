@@ -1,6 +1,6 @@
 // A call that was read, on a sound register: room for its answer, and then its operation.
 //
-// `perform` is the definition's `perform` (crates/definition/specs/Perform.antt). The answer's room is one test before the dispatch: operations 1 to 7 and 11 ask
+// `perform` is the definition's `perform` (crates/definition/specs/Perform.antt). The answer's room is one test before the dispatch: operations 1 to 7, 11, 13 and 14 ask
 // for a head and a record, whatever they will answer (30); the others know their answer's size when they have made it, and test it themselves. The
 // dispatch has one line for each operation. A raise and a clear are searched for here, along the active chain, and their steps are given
 // what was found (`raising::raise_at`, `state::clear_at`). A new operation is a line of the dispatch, one of `asks_record`, and a crate.
@@ -67,7 +67,7 @@ fn clear(register: &mut [u8], ends: Ends, call: &[u8], c: Clear, answer: &mut [u
 
 // ---- room for the answer
 
-// Whether a call asks for room for a record before its step: operations 1 to 7 and 11.
+// Whether a call asks for room for a record before its step: operations 1 to 7, 11, 13 and 14.
 fn asks_record(parsed: Parsed) -> bool
     ensures { λ r. ⌜ ((call : Bytes) → r ≡ asksRecord (opOf (meaning call parsed))) ⌝ }
 {
@@ -85,6 +85,7 @@ fn asks_record(parsed: Parsed) -> bool
         Parsed::Counts => false,
         Parsed::Summary => true,
         Parsed::TakeAudit(_) => false,
+        Parsed::Lift(_) => true,
         Parsed::Refused(_) => false,
     }
 }
@@ -121,12 +122,12 @@ fn dispatch(
             action,
             answer,
         )),
-        Parsed::Policy(action, p) => Reply::Answered(admin::apply_admin_action(
+        Parsed::Policy(deed, p) => Reply::Answered(admin::apply_admin_action(
             register,
             ends,
             call,
             p,
-            action,
+            deed,
             answer,
         )),
         Parsed::Expire(cutoff) => Reply::Answered(expiry::expire(register, ends, cutoff, answer)),
@@ -141,6 +142,7 @@ fn dispatch(
         Parsed::Counts => metrics::counts(register, answer),
         Parsed::Summary => Reply::Answered(metrics::summary(register, answer)),
         Parsed::TakeAudit(n) => audit_log::take_audit(register, n, answer),
+        Parsed::Lift(cutoff) => Reply::Answered(expiry::lift(register, ends, cutoff, answer)),
         Parsed::Refused(k) => Reply::Refused(k as u32),
     }
 }

@@ -22,7 +22,8 @@ use Rattle.definition.specs.Steps.{change, updatedBy, newAlarm, store, storeNew
 use Rattle.definition.specs.Answer.{Raised, Updated, ActiveLimitExceeded, head, headBytes, answerBytes}
 use Rattle.definition.specs.Sound.{station, sound}
 use Rattle.definition.specs.Contracts.Does.{Does, Answers, Refuses}
-use Rattle.history.specs.Meaning.{IsAlarm, OnActive, Changes}
+use Rattle.history.specs.Meaning.{IsAlarm, OnActive, Revises}
+use Rattle.history.specs.FileLaws.{changes}
 use Rattle.register.specs.Search.{alarmAt}
 use Rattle.history.specs.DoesLaws.{does-then, does-look, does-yes, does-no}
 use Rattle.history.specs.AlarmRecordLaws.{alarm-payload, payload-as, changed-payload}
@@ -42,9 +43,9 @@ module _ (c : RaiseValue) (b q p : Bytes) (i : ℕ) (h : T (sound b)) (o : OnAct
   pub updated-payload : IsAlarm lastActive p × (readAlarm p ≡ alarm)
   updated-payload = changed-payload b h lastActive i (updatedBy c) q p o k (e ∙ ap alarmBytes (updated-with c (readAlarm q))) (updated-legal c (alarmAt b i) l)
 
-  pub updates : (b′ a a′ : Bytes) (n : ℕ) → Changes i (readAlarm p) b b′ → Put a 0 (headBytes (head 2 1 0) ++ (be32 0 ++ p)) n a′ → Answers (updatesAt b i c) b b′ a a′ n
-  updates b′ a a′ n f w =
-      answers-put (subst (λ (y : Alarm). Does (change Updated i y) b b′ (Updated y)) (updated-payload .1) (f Updated)) (put-as (alarm-as (Updated alarm) alarm refl refl (payload-as lastActive p (updated-payload .0 .legal) (updated-payload .1))) w)
+  pub updates : (b′ a a′ : Bytes) (last n : ℕ) → Revises i (readAlarm p) b b′ last → Put a 0 (headBytes (head 2 1 0) ++ (be32 0 ++ p)) n a′ → Answers (updatesAt b i c) b b′ a a′ n
+  updates b′ a a′ last n f w =
+      answers-put (subst (λ (y : Alarm). Does (change Updated i y) b b′ (Updated y)) (updated-payload .1) (changes Updated i (readAlarm p) f)) (put-as (alarm-as (Updated alarm) alarm refl refl (payload-as lastActive p (updated-payload .0 .legal) (updated-payload .1))) w)
 
 -- ---- a new one is stored
 

@@ -60,7 +60,7 @@ fn update(
     let mut p = [0u8; Record::PAYLOAD];
     state::load(&mut p, register, i);
     changes::updated_by(&mut p, call, news);
-    history::change(register, i, ends, &p);
+    history::revise(register, i, ends, &p);
     answers::put_alarm(answer, 2, &p)
 }
 

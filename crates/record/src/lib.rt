@@ -13,12 +13,14 @@ ghost use lib.Dec.{T};
 ghost use lib.ListN.{length};
 ghost use Rattle.octets.specs.Bytes.{same, zeros, digits, splice};
 ghost use Rattle.definition.specs.Limits.{textLimit, detailsLimit};
-ghost use Rattle.definition.specs.Alarm.{sameMaybe, sameIdentity, withSeverity, withState, withUpdated, withCleared, withText, withDetails, withRaises};
+ghost use Rattle.definition.specs.Alarm.{sameMaybe, sameIdentity, withSeverity, withState, withUpdated, withCleared, withText, withDetails, withRaises, withEnd};
 ghost use Rattle.definition.specs.Book.{payloadWidth};
 ghost use Rattle.definition.specs.Slot.{stringBytes};
 ghost use Rattle.definition.specs.Record.{lastState, readAlarm, soundAlarm};
+ghost use Rattle.model.specs.Meaning.{optTime};
 ghost use Rattle.record.specs.Meaning.{stringAt, optionAt};
 ghost use Rattle.record.specs.Change.{Becomes};
+use model::OptTime;
 use model::Record;
 
 mod places;
@@ -63,6 +65,17 @@ pub fn raises(p: &[u8]) -> u32
     ensures { λ r. ⌜ r ≡ readAlarm (now (p .entry)) .raises ⌝ }
 {
     octets::get32(p, AlarmAt::RAISES)
+}
+
+// The end of a suppression.
+pub fn end(p: &[u8]) -> OptTime
+    requires { ⌜ length (now p) ≡ payloadWidth ⌝ }
+    ensures { λ r. ⌜ optTime r ≡ readAlarm (now (p .entry)) .end ⌝ }
+{
+    if p[AlarmAt::END] == 0 {
+        return OptTime::Absent;
+    }
+    OptTime::Present(octets::get64(p, AlarmAt::END + Slot::MARK))
 }
 
 // The string in a slot; all of its room where the length is above it.
@@ -170,12 +183,21 @@ pub fn set_updated(p: &mut [u8], t: u64)
     octets::put64(p, AlarmAt::UPDATED_AT, t);
 }
 
+// The slot of an optional time that is there.
+fn put_time(p: &mut [u8], at: usize, t: u64)
+    requires { ⌜ at + 9 ≤ length (now p) ⌝ }
+    ensures { λ _. ⌜ now (p .exit) ≡ splice (now (p .entry)) at (1 ∷ digits 8 t) ⌝ }
+{
+    octets::put_byte(p, at, 1);
+    let a = at + Slot::MARK;
+    octets::put64(p, a, t);
+}
+
 pub fn set_cleared(p: &mut [u8], t: u64)
     requires { ⌜ length (now p) ≡ payloadWidth ⌝ }
     ensures { λ _. ⌜ Becomes (withCleared t) 34 (1 ∷ digits 8 t) (now (p .entry)) (now (p .exit)) ⌝ }
 {
-    octets::put_byte(p, AlarmAt::CLEARED_AT, 1);
-    octets::put64(p, AlarmAt::CLEARED_AT + Slot::MARK, t);
+    put_time(p, AlarmAt::CLEARED_AT, t);
 }
 
 pub fn set_text(p: &mut [u8], s: &[u8])
@@ -216,4 +238,18 @@ pub fn set_raises(p: &mut [u8], n: u32)
     ensures { λ _. ⌜ Becomes (withRaises n) 1447 (digits 4 n) (now (p .entry)) (now (p .exit)) ⌝ }
 {
     octets::put32(p, AlarmAt::RAISES, n);
+}
+
+pub fn set_end(p: &mut [u8], t: u64)
+    requires { ⌜ length (now p) ≡ payloadWidth ⌝ }
+    ensures { λ _. ⌜ Becomes (withEnd (some t)) 1451 (1 ∷ digits 8 t) (now (p .entry)) (now (p .exit)) ⌝ }
+{
+    put_time(p, AlarmAt::END, t);
+}
+
+pub fn no_end(p: &mut [u8])
+    requires { ⌜ length (now p) ≡ payloadWidth ⌝ }
+    ensures { λ _. ⌜ Becomes (withEnd none) 1451 (zeros 9) (now (p .entry)) (now (p .exit)) ⌝ }
+{
+    octets::put_zeros(p, AlarmAt::END, Slot::OPTIONAL_TIME);
 }

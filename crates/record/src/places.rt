@@ -80,7 +80,9 @@ impl AlarmAt {
 
     pub const RAISES: usize = Self::DETAILS + Slot::OPTIONAL_DETAILS;
 
-    pub const SPARE: usize = Self::RAISES + Slot::RAISES;
+    pub const END: usize = Self::RAISES + Slot::RAISES;
+
+    pub const SPARE: usize = Self::END + Slot::OPTIONAL_TIME;
 }
 
 // Where the parts of an affected object start in its slot: behind its kind, the first string, the mark and the second string, and the queue.

@@ -14,15 +14,16 @@ use Rattle.definition.specs.Chain.{Entry, entry, first}
 use Rattle.definition.specs.Alarm.{Alarm, hasId}
 use Rattle.definition.specs.Record.{lastActive, alarmBytes, readAlarm}
 use Rattle.definition.specs.Book.{recordOf}
-use Rattle.definition.specs.Contracts.LegalFields.{Time}
+use Rattle.definition.specs.Contracts.LegalFields.{Time, Maybe}
 use Rattle.definition.specs.Laws.Steps.ChangedLegal.{acted-legal}
 use Rattle.definition.specs.Station.{Step}
-use Rattle.definition.specs.Value.{Action, acknowledging, suppressing}
+use Rattle.definition.specs.Value.{Action, acknowledging, suppressing, Deed, untimed, deedAction, deedEnd}
 use Rattle.definition.specs.Steps.{actionAnswer, notAuthorized, actedOn, act, plainAt, plain, change}
 use Rattle.definition.specs.Answer.{Answer, Unauthorized, NotFound, head, headOf, headBytes, body, alarmRecord, answerBytes}
 use Rattle.definition.specs.Sound.{station, sound}
 use Rattle.definition.specs.Contracts.Does.{Does, Answers}
-use Rattle.history.specs.Meaning.{IsAlarm, OnActive, Changes}
+use Rattle.history.specs.Meaning.{IsAlarm, OnActive, Revises}
+use Rattle.history.specs.FileLaws.{changes}
 use Rattle.register.specs.Search.{alarmAt}
 use Rattle.history.specs.DoesLaws.{does-then, does-give, does-look, does-yes, does-no}
 use Rattle.history.specs.AlarmRecordLaws.{payload-as, changed-payload}
@@ -43,19 +44,20 @@ action-body : (x : Action) (a : Alarm) → body (actionAnswer x a) ≡ alarmReco
 action-body acknowledging a = refl
 action-body suppressing a = refl
 
-module _ (b q p : Bytes) (i : ℕ) (x : Action) (time : ℕ) (h : T (sound b)) (o : OnActive b i) (t : Time time) (l : q ≡ recordOf b i .content) (e : p ≡ alarmBytes (actedOn x time (readAlarm q))) where
+module _ (b q p : Bytes) (i : ℕ) (d : Deed) (time : ℕ) (h : T (sound b)) (o : OnActive b i) (z : Maybe Time (deedEnd d)) (t : Time time) (l : q ≡ recordOf b i .content) (e : p ≡ alarmBytes (actedOn d time (readAlarm q))) where
   abbrev alarm : Alarm
-  alarm = actedOn x time (alarmAt b i)
+  alarm = actedOn d time (alarmAt b i)
 
   pub acted-payload : IsAlarm lastActive p × (readAlarm p ≡ alarm)
-  acted-payload = changed-payload b h lastActive i (actedOn x time) q p o l e (acted-legal x time (alarmAt b i) t)
+  acted-payload = changed-payload b h lastActive i (actedOn d time) q p o l e (acted-legal d time (alarmAt b i) z t)
 
   pub acts :
-      (b′ a a′ : Bytes) (n c : ℕ) → Changes i (readAlarm p) b b′ → c ≡ actionCode x → Put a 0 (headBytes (head c 1 0) ++ (be32 0 ++ p)) n a′ →
-      Answers (act x time (entry i (alarmAt b i))) b b′ a a′ n
+      (b′ a a′ : Bytes) (last n c : ℕ) → Revises i (readAlarm p) b b′ last → c ≡ actionCode (deedAction d) → Put a 0 (headBytes (head c 1 0) ++ (be32 0 ++ p)) n a′ →
+      Answers (act d time (entry i (alarmAt b i))) b b′ a a′ n
   unfolding act
-  acts b′ a a′ n c f k w =
-      answers-put (subst (λ (y : Alarm). Does (change (actionAnswer x) i y) b b′ (actionAnswer x y)) (acted-payload .1) (f (actionAnswer x)))
+  acts b′ a a′ last n c f k w =
+      let x = deedAction d in
+      answers-put (subst (λ (y : Alarm). Does (change (actionAnswer x) i y) b b′ (actionAnswer x y)) (acted-payload .1) (changes (actionAnswer x) i (readAlarm p) f))
       (put-as (alarm-as (actionAnswer x alarm) alarm (action-head x alarm ∙ ap (λ (m : ℕ). head m 1 0) (sym k)) (action-body x alarm) (payload-as lastActive p (acted-payload .0 .legal) (acted-payload .1))) w)
 
 -- ---- "unauthorised first, then NotFound"
@@ -66,7 +68,7 @@ module _ (x : Action) (time : ℕ) (id : Bytes) (b b′ a a′ : Bytes) (n : ℕ
   unauthorised f z e w = answers-put (rw e (does-yes (eqb f 0) _ _ (eq-eqb f 0 z) (does-give b (Unauthorized (notAuthorized x)) h))) w
 
   module _ (f : ℕ) (yes-flag : 1 ≤ f) where
-    pub on-found : (e : Entry Alarm) → first (hasId id) (station b .active) ≡ some e → Answers (act x time e) b b′ a a′ n → Answers (plain x (plainOf time id f)) b b′ a a′ n
+    pub on-found : (e : Entry Alarm) → first (hasId id) (station b .active) ≡ some e → Answers (act (untimed x) time e) b b′ a a′ n → Answers (plain x (plainOf time id f)) b b′ a a′ n
     unfolding plain plainAt
     on-found e k w = record {
       value = w .value;

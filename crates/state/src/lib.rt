@@ -19,14 +19,15 @@ ghost use Rattle.definition.specs.Sound.{station, sound};
 ghost use Rattle.definition.specs.Contracts.Moves.{CanRelease};
 ghost use Rattle.definition.specs.Contracts.Does.{Answers};
 ghost use Rattle.octets.specs.Put.{Put};
-ghost use Rattle.model.specs.Meaning.{within, actionOf};
+ghost use Rattle.model.specs.Meaning.{within, actionOf, deedOf};
 ghost use Rattle.raise_fields.specs.Meaning.{clearValue};
 ghost use Rattle.action_fields.specs.Meaning.{plainValue};
 ghost use Rattle.register.specs.Search.{alarmAt, Finds};
 ghost use Rattle.history.specs.Meaning.{IsAlarm, Newest, OnActive};
-ghost use Rattle.state.specs.Meaning.{Authorised, Clearing, actionCode, clearedAt};
+ghost use Rattle.state.specs.Meaning.{Authorised, Clearing, EndsInTime, actionCode, clearedAt};
 use action_fields::Plain;
 use model::Action;
+use model::Deed;
 use model::Record;
 use raise_fields::Clear;
 use register::Ends;
@@ -58,14 +59,17 @@ pub fn act(
     register: &mut [u8],
     i: u32,
     ends: Ends,
-    action: Action,
+    deed: Deed,
     time: u64,
     answer: &mut [u8],
 ) -> usize
-    requires { ⌜ Newest (now register) (ends .history) × OnActive (now register) i × (1552 ≤ length (now answer)) ⌝ }
+    requires { ⌜ Newest (now register) (ends .history)
+        × OnActive (now register) i
+        × EndsInTime deed
+        × (1552 ≤ length (now answer)) ⌝ }
     ensures { λ r.
         ⌜ Answers
-        (S.act (actionOf action) time (entry i (alarmAt (now (register .entry)) i)))
+        (S.act (deedOf deed) time (entry i (alarmAt (now (register .entry)) i)))
         (now (register .entry))
         (now (register .exit))
         (now (answer .entry))
@@ -74,9 +78,9 @@ pub fn act(
 {
     let mut p = [0u8; Record::PAYLOAD];
     load(&mut p, register, i);
-    changes::acted_on(&mut p, action, time);
-    history::change(register, i, ends, &p);
-    answers::put_alarm(answer, code_of(action), &p)
+    changes::acted_on(&mut p, deed, time);
+    history::revise(register, i, ends, &p);
+    answers::put_alarm(answer, code_of(model::action_of(deed)), &p)
 }
 
 fn not_authorized(answer: &mut [u8], action: Action) -> usize
@@ -119,7 +123,7 @@ fn plain_on(
         r ⌝ }
 {
     match register::find_id(register, id) {
-        Found::At(i, _) => act(register, i, ends, action, time, answer),
+        Found::At(i, _) => act(register, i, ends, Deed::Untimed(action), time, answer),
         Found::Nowhere => answers::put_text(answer, 10, id),
     }
 }

@@ -1,6 +1,6 @@
--- Actor, request and verdict.
+-- The time, and the fields behind it.
 use Rattle.definition.specs.Parse.{policyFields}
-use Rattle.fields.specs.CursorLaws.{done, step}
+use Rattle.fields.specs.CursorLaws.{step}
 use borrow.Author.Needs.{needs}
 use Rattle.action_fields.proofs.policy_at.Statement.{statement}
 use Rattle.action_fields.proofs.policy_at.Tie as tie
@@ -8,10 +8,9 @@ use Rattle.action_fields.proofs.policy_at.Tie as tie
 returns : tie.Need-returns
 unfolding policyFields
 returns c =
-    let actor = c .before .before .before .before .before .actor-at .ensures in
-    let request = c .before .before .before .request-at .ensures in
-    let verdict = c .before .verdict-at .ensures in
-    (step _ (actor .0) (step _ (request .0) (step _ (verdict .0) done)), record { actor = actor .1; request = request .1; verdict = verdict .1 })
+    let time = c .before .number-at .ensures in
+    let policy = c .policy-from .ensures in
+    (step _ (time .0) (policy .0), policy .1)
 
 pub policy-at-spec : {M : Type 1} → statement M
-policy-at-spec = tie.close (tie.spec (λ c κs. search needs) (λ c κs. search needs) (λ c κs. search needs) returns)
+policy-at-spec = tie.close (tie.spec (λ c κs. search needs) (λ c κs. search needs) returns)

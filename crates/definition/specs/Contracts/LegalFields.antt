@@ -10,7 +10,7 @@ use Rattle.octets.specs.Bytes.{Bytes}
 use Rattle.definition.specs.Limits.{shortLimit, causeLimit, regionLimit, textLimit, detailsLimit}
 use Rattle.definition.specs.Utf8.{utf8}
 use Rattle.definition.specs.Cause.{stored}
-use Rattle.definition.specs.Value.{ObjectValue, KeyValue, RaiseValue, PolicyValue, ScopeValue, CallValue}
+use Rattle.definition.specs.Value.{ObjectValue, KeyValue, RaiseValue, PolicyValue, ScopeValue, CallValue, deedEnd}
 use Rattle.definition.specs.Chain.{Entry}
 use Rattle.definition.specs.Alarm.{Alarm, Event}
 use Rattle.definition.specs.Station.{Station}
@@ -66,6 +66,10 @@ pub record LegalKey (k : KeyValue) : Type 0 where
   pub slice : Maybe (TextOf shortLimit) (k .places .slice)
   pub region : Maybe (λ s. TextOf regionLimit s × (1 ≤ length s)) (k .places .region)
 
+-- M-105: an end is a suppressed alarm's
+abbrev pub EndOf : ℕ → Option ℕ → Type 0
+EndOf state end = Maybe (λ t. Time t × (state ≡ 3)) end
+
 -- an alarm whose state is at most `top`: 3 on the active chain, 5 in history
 pub record LegalAlarm (top : ℕ) (a : Alarm) : Type 0 where
   pub id : TextOf shortLimit (a .id)
@@ -80,6 +84,7 @@ pub record LegalAlarm (top : ℕ) (a : Alarm) : Type 0 where
   pub clearedAt : Maybe Time (a .clearedAt)
   pub key : KeyOf (a .key)
   pub raises : Raises (a .raises)
+  pub end : EndOf (a .state) (a .end)
 
 abbrev pub LegalScope : ScopeValue → Type 0
 LegalScope (ScopeValue.alarmScope s) = TextOf shortLimit s
@@ -126,11 +131,12 @@ abbrev pub LegalCall : CallValue → Type 0
 LegalCall (CallValue.raise c) = LegalRaise c
 LegalCall (CallValue.clear c) = Time (c .time)
 LegalCall (CallValue.plain x p) = Time (p .time)
-LegalCall (CallValue.policy x p) = LegalPolicy p
+LegalCall (CallValue.policy d p) = LegalPolicy p × Maybe Time (deedEnd d)
 LegalCall (CallValue.expire t) = Time t
 LegalCall (CallValue.active v) = Unit {0}
 LegalCall (CallValue.history t l) = Unit {0}
 LegalCall CallValue.counts = Unit {0}
 LegalCall CallValue.summary = Unit {0}
 LegalCall (CallValue.takeAudit k) = Unit {0}
+LegalCall (CallValue.lift t) = Time t
 LegalCall (CallValue.refused k) = Among k callRefusals

@@ -9,7 +9,7 @@ returns c =
     let p = c .before .before in
     let w = p .before .before .before .before in
     let s = w .before .before .before .before in
-    expires-all _ _ _ _ _ _ _ (s .pre .0 .whole) (w .sweep .ensures) (p .put-number .ensures)
+    expires-all _ _ _ _ _ _ _ (s .pre .0 .whole) (p .put-number .ensures) (w .sweep .ensures)
 
 pub expire-spec : {M : Type 1} → statement M
 expire-spec =

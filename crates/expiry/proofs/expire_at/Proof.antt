@@ -1,6 +1,8 @@
 -- `expire_at`: the payload is taken out, changed and goes into history.
 use borrow.Author.Needs.{needs}
-use Rattle.expiry.specs.SweepLaws.{expired-payload, expires}
+use Rattle.definition.specs.Laws.Steps.ChangedLegal.{expired-legal}
+use Rattle.definition.specs.Steps.{retire, expiredBy}
+use Rattle.expiry.specs.SweepLaws.{taken-payload, taken-files}
 use Rattle.expiry.proofs.expire_at.Statement.{statement}
 use Rattle.expiry.proofs.expire_at.Tie as tie
 
@@ -16,7 +18,7 @@ retire-requires c κs =
     let x = c .before .before .before in
     let l = x .before .before .before in
     let s = l .before .before .before .before in
-    (s .pre .0, s .pre .1, expired-payload _ _ _ _ _ (s .pre .0 .whole) (s .pre .1 .on) (search needs) (l .load .ensures .0) (x .expired-by .ensures) .0)
+    (s .pre .0, s .pre .1, taken-payload _ _ _ _ (expiredBy (s .args .cutoff)) _ (s .pre .0 .whole) (s .pre .1 .on) (expired-legal (s .args .cutoff) _ (search needs)) (l .load .ensures .0) (x .expired-by .ensures) .0)
 
 returns : tie.Need-returns
 returns c =
@@ -24,7 +26,7 @@ returns c =
     let x = r .before .before .before .before in
     let l = x .before .before .before in
     let s = l .before .before .before .before in
-    expires _ _ _ _ _ (s .pre .0 .whole) (s .pre .1 .on) (search needs) (l .load .ensures .0) (x .expired-by .ensures) _ _ (r .retire .ensures)
+    taken-files _ _ _ _ (expiredBy (s .args .cutoff)) _ (s .pre .0 .whole) (s .pre .1 .on) (expired-legal (s .args .cutoff) _ (search needs)) (l .load .ensures .0) (x .expired-by .ensures) (retire (s .args .i)) _ _ (r .retire .ensures)
 
 pub expire-at-spec : {M : Type 1} → statement M
 expire-at-spec =

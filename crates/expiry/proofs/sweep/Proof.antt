@@ -10,10 +10,10 @@ use Rattle.expiry.proofs.sweep.Statement.{statement}
 use Rattle.expiry.proofs.sweep.Tie as tie
 
 abbrev Inv-loop : tie.InvT-loop
-Inv-loop register₀ cutoff n at₀ s₀ k₀ register at s k = Sweep cutoff register₀ register n at s k × (length register ≡ length register₀)
+Inv-loop register₀ round cutoff n at₀ s₀ k₀ register at s k = Sweep round cutoff register₀ register n at s k × (length register ≡ length register₀)
 
 abbrev μ-loop : tie.MeasureT-loop
-μ-loop register₀ cutoff n at₀ s₀ k₀ register at s k = n - k
+μ-loop register₀ round cutoff n at₀ s₀ k₀ register at s k = n - k
 
 held-requires : tie.Need-held-requires Inv-loop μ-loop
 held-requires c κs = (c .before .before .pre .whole, omega arith)
@@ -25,11 +25,11 @@ loop-holds : tie.Need-loop-holds Inv-loop μ-loop
 loop-holds c =
     let g = c .before .before in
     let s = g .before .before .before in
-    (sweep-start _ _ _ _ _ (s .pre) (g .held .ensures) (c .first .ensures), refl)
+    (sweep-start _ _ _ _ _ _ (s .pre) (g .held .ensures) (c .first .ensures), refl)
 
 -- the record that the sweep is at
 at-fits : (c : tie.In-loop Inv-loop μ-loop) → 1536 * c .before .loop .at + 1536 ≤ length (c .before .loop .register)
-at-fits c = meets-fits _ _ _ _ _ _ _ (c .before .loop .inv .0) (c .loop-test .taken)
+at-fits c = meets-fits _ _ _ _ _ _ _ _ (c .before .loop .inv .0) (c .loop-test .taken)
 
 next-requires : tie.Need-next-requires Inv-loop μ-loop
 next-requires c κs = at-fits (c .before)
@@ -38,7 +38,7 @@ pass-requires : tie.Need-pass-requires Inv-loop μ-loop
 pass-requires c κs =
     let t = c .before .before .before in
     let l = t .before in
-    (l .loop .inv .0 .newest, meets-free _ _ _ _ _ _ _ (l .loop .inv .0) (t .loop-test .taken), omega (arith, l .loop .inv .0 .few, t .loop-test .taken))
+    (l .loop .inv .0 .newest, meets-free _ _ _ _ _ _ _ _ (l .loop .inv .0) (t .loop-test .taken), omega (arith, l .loop .inv .0 .few, t .loop-test .taken))
 
 loop-again : tie.Need-loop-again Inv-loop μ-loop
 loop-again c =
@@ -48,7 +48,7 @@ loop-again c =
     (p .pass .ensures _ _ _ _ (t .before .loop .inv .0) (t .loop-test .taken) (g .next .ensures), search needs)
 
 returns : tie.Need-returns Inv-loop μ-loop
-returns c = sweep-end _ _ _ _ _ _ _ (c .before .loop .inv .0) (omega (arith, c .loop-test .left))
+returns c = sweep-end _ _ _ _ _ _ _ _ (c .before .loop .inv .0) (omega (arith, c .loop-test .left))
 
 pub sweep-spec : {M : Type 1} → statement M
 sweep-spec =

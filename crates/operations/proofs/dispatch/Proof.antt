@@ -8,7 +8,7 @@ use denote.Ref.{now}
 use Rattle.octets.specs.Bytes.{Bytes}
 use Rattle.definition.specs.Value.{opOf}
 use Rattle.definition.specs.Perform.{asksRecord}
-use Rattle.model.specs.Meaning.{actionOf}
+use Rattle.model.specs.Meaning.{actionOf, deedOf}
 use Rattle.action_fields.specs.Meaning.{plainValue, policyValue}
 use Rattle.call.specs.declared.Parsed.{Parsed}
 use Rattle.call.specs.Meaning.{meaning}
@@ -65,13 +65,21 @@ apply-admin-action-requires c κs =
     let s = m .before .before .before .before .before in
     let e = m .parsed4 .given .1 in
     let k = called s e in
-    record { standing = k .standing; sent = record { within = k .within; legal = k .legal }; room = room s e (policy-asks (actionOf (m .parsed4 .given .0 .0)) (policyValue (now (s .args .call)) (m .parsed4 .given .0 .1 .0))) }
+    record { standing = k .standing; sent = record { within = k .within; legal = k .legal .0 }; timed = k .legal .1; room = room s e (policy-asks (deedOf (m .parsed4 .given .0 .0)) (policyValue (now (s .args .call)) (m .parsed4 .given .0 .1 .0))) }
 
 expire-requires : tie.Need-expire-requires
 expire-requires c κs =
     let m = c .before .before .before in
     let s = m .before .before .before .before .before in
     let e = m .parsed5 .given .1 in
+    let k = called s e in
+    (standing-newest (k .standing), room s e refl)
+
+lift-requires : tie.Need-lift-requires
+lift-requires c κs =
+    let m = c .before .before .before in
+    let s = m .before .before .before .before .before in
+    let e = m .parsed9 .given .1 in
     let k = called s e in
     (standing-newest (k .standing), room s e refl)
 
@@ -117,7 +125,7 @@ returns-4 c =
     let o = c .before .before .before .before in
     let m = o .before .before .before .before in
     let s = m .before .before .before .before .before in
-    arm s (m .parsed4 .given .1) (Answered (o .apply-admin-action .result)) _ _ (policy-steps _ (Answered (o .apply-admin-action .result)) _ _ _ _ (actionOf (m .parsed4 .given .0 .0)) (policyValue (now (s .args .call)) (m .parsed4 .given .0 .1 .0)) (o .apply-admin-action .ensures))
+    arm s (m .parsed4 .given .1) (Answered (o .apply-admin-action .result)) _ _ (policy-steps _ (Answered (o .apply-admin-action .result)) _ _ _ _ (deedOf (m .parsed4 .given .0 .0)) (policyValue (now (s .args .call)) (m .parsed4 .given .0 .1 .0)) (o .apply-admin-action .ensures))
 
 returns-5 : tie.Need-returns-5
 returns-5 c =
@@ -163,9 +171,16 @@ returns-10 c =
 
 returns-11 : tie.Need-returns-11
 returns-11 c =
+    let o = c .before .before .before .before in
+    let m = o .before .before .before .before in
+    let s = m .before .before .before .before .before in
+    arm s (m .parsed9 .given .1) (Answered (o .lift .result)) _ _ (o .lift .ensures)
+
+returns-12 : tie.Need-returns-12
+returns-12 c =
     let m = c .before in
     let s = m .before .before .before .before .before in
-    arm s (m .parsed9 .given .1) (Refused _) _ _ (stays-refused _ _ _ _)
+    arm s (m .parsed10 .given .1) (Refused _) _ _ (stays-refused _ _ _ _)
 
 pub dispatch-spec : {M : Type 1} → statement M
 dispatch-spec =
@@ -191,6 +206,8 @@ dispatch-spec =
     summary-requires
     (λ c. search needs)
     (λ c κs. search needs)
+    (λ c. search needs)
+    lift-requires
     (λ c. search needs)
     (λ c. search needs)
     (λ c. search needs)
@@ -223,4 +240,7 @@ dispatch-spec =
     (λ c. search needs)
     (λ c. search needs)
     returns-10
-    returns-11)
+    (λ c. search needs)
+    (λ c. search needs)
+    returns-11
+    returns-12)

@@ -19,8 +19,8 @@ updated-by-requires c κs =
       record { text = s .pre .0 .parts .text; details = s .pre .0 .parts .details },
     )
 
-change-requires : tie.Need-change-requires
-change-requires c κs =
+revise-requires : tie.Need-revise-requires
+revise-requires c κs =
     let x = c .before .before .before in
     let l = x .before .before .before in
     let s = l .before .before .before .before .before .before .before .before in (
@@ -37,7 +37,7 @@ returns c =
     let l = x .before .before .before in
     let s = l .before .before .before .before .before .before .before .before in
     updates (raiseValue (now (s .args .call)) (s .args .r)) _ _ _ _ (s .pre .0 .standing .whole) (s .pre .1) (s .pre .0 .legal) (l .load .ensures .0) (x .updated-by .ensures)
-    _ _ _ _ (h .change .ensures) (a .put-alarm .ensures)
+    _ _ _ _ _ (h .revise .ensures) (a .put-alarm .ensures)
 
 pub update-spec : {M : Type 1} → statement M
 update-spec =
@@ -48,7 +48,7 @@ update-spec =
     (λ c. search needs)
     updated-by-requires
     (λ c. search needs)
-    change-requires
+    revise-requires
     (λ c. search needs)
     (λ c κs. search needs)
     (λ c. search needs)

@@ -15,7 +15,7 @@ act-requires c κs =
     let i = c .before .before .before in
     let f = i .before .before in
     let s = f .before .before .before .before .before in
-    (s .pre .0, finds-release (f .find-id .ensures) (i .i .given .1) (s .pre .0 .whole) .on, s .pre .2)
+    (s .pre .0, finds-release (f .find-id .ensures) (i .i .given .1) (s .pre .0 .whole) .on, tt, s .pre .2)
 
 returns : tie.Need-returns
 returns c flag set =

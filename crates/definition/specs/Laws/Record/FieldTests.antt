@@ -2,7 +2,7 @@
 -- slot. For the laws of whole records (Payloads).
 use Prim.Native.Nat.{ℕ, _≤_, _<_, _^_}
 use mathlib.Core.Path.{_≡_}
-use mathlib.Core.Bool.{Bool, true, _&&_}
+use mathlib.Core.Bool.{Bool, true, not, _&&_, _||_}
 use mathlib.Core.Option.{Option, none, some}
 use borrow.Author.Tests.{lt-ltb, le-leb, eq-eqb}
 use lib.Dec.{T, leb, ltb, eqb, leb→le, ltb→lt, eqb→eq}
@@ -13,9 +13,10 @@ use Rattle.definition.specs.Limits.{shortLimit, causeLimit, regionLimit,
 use Rattle.definition.specs.Utf8.{utf8}
 use Rattle.definition.specs.Cause.{stored}
 use Rattle.definition.specs.Value.{ObjectValue, ScopeValue}
+use Rattle.definition.specs.Chain.{present}
 use Rattle.definition.specs.Slot.{Slot, string, option}
 use Rattle.definition.specs.Record.{isRegion, anyBytes, short, causeSlot, regionSlot, detailsSlot, objectOk, scopeOk}
-use Rattle.definition.specs.Contracts.LegalFields.{Time, Raises, Maybe, BlobOf, TextOf, CauseOf, ObjectOf, LegalScope}
+use Rattle.definition.specs.Contracts.LegalFields.{Time, EndOf, Raises, Maybe, BlobOf, TextOf, CauseOf, ObjectOf, LegalScope}
 
 -- the test t says P
 pub record Says (t : Bool) (P : Type 0) : Type 0 where
@@ -95,6 +96,19 @@ says-scope ScopeValue.globalScope = always
 
 pub says-time : (t : ℕ) → Says (ltb t (256 ^ 8)) (Time t)
 says-time t = says-lt t 18446744073709551616
+
+-- M-105: where there is an end, the state is 3
+pub says-end : (state : ℕ) (end : Option ℕ) → Says (not (present end) || eqb state 3) (Maybe (λ t. state ≡ 3) end)
+says-end x none = always
+says-end x (some t) = says-eq x 3
+
+pub end-of : (state : ℕ) (end : Option ℕ) → Maybe Time end → Maybe (λ t. state ≡ 3) end → EndOf state end
+end-of x none p q = tt
+end-of x (some t) p q = (p, q)
+
+pub end-parts : (state : ℕ) (end : Option ℕ) → EndOf state end → Maybe Time end × Maybe (λ t. state ≡ 3) end
+end-parts x none p = (tt, tt)
+end-parts x (some t) p = p
 
 pub says-raises : (n : ℕ) → Says (ltb n (256 ^ 4)) (Raises n)
 says-raises n = says-lt n 4294967296

@@ -9,12 +9,12 @@ use mathlib.Core.Option.{Option, none, some}
 use native.Mathlib.Omega.{arith}
 use lib.ListN.{length, drop}
 use Rattle.octets.specs.Bytes.{Bytes, same}
-use Rattle.definition.specs.Value.{RaiseValue, Action}
+use Rattle.definition.specs.Value.{RaiseValue, Action, Deed}
 use Rattle.definition.specs.Chain.{Entry, entry, onContent}
-use Rattle.definition.specs.Alarm.{Alarm, isDue}
+use Rattle.definition.specs.Alarm.{Alarm, isDue, isOver}
 use Rattle.definition.specs.Station.{Station, Step, _>>=_, onActive, withActive, nextFree, addActive, freeActive, changeActive}
 use Rattle.definition.specs.Answer.{Answer, Raised, Updated}
-use Rattle.definition.specs.Steps.{intoHistory, updatedBy, newAlarm, clearedBy, actionAnswer, actedOn, expiredBy}
+use Rattle.definition.specs.Steps.{intoHistory, updatedBy, newAlarm, clearedBy, actionAnswer, actedOn, expiredBy, liftedBy}
 use Rattle.definition.specs.Contracts.LegalFields.{LegalAlarm}
 use Rattle.definition.specs.Contracts.LegalStation.{LegalStation}
 use Rattle.definition.specs.Laws.Steps.LegalMoves.{ended, Aside, addActive-legal, freeActive-legal, changeActive-legal}
@@ -65,14 +65,16 @@ worded t d c = record { head = c .head; key = c .key; text = t; details = d }
 
 -- what a likeness must meet
 pub record Lasting (k : Likeness) : Type 0 where
-  -- what is searched for, and which alarms are due
+  -- what is searched for, which alarms are due, and whose suppression is over
   pub keys : {e e′ : Entry Alarm} → k .Pair e e′ → e .content .key ≡ e′ .content .key
   pub ids : {e e′ : Entry Alarm} → k .Pair e e′ → e .content .id ≡ e′ .content .id
   pub due : {e e′ : Entry Alarm} (t : ℕ) → k .Pair e e′ → isDue t (e .content) ≡ isDue t (e′ .content)
+  pub over : {e e′ : Entry Alarm} (t : ℕ) → k .Pair e e′ → isOver t (e .content) ≡ isOver t (e′ .content)
   -- changes
   pub updates : {e e′ : Entry Alarm} {c : RaiseValue} {t : Bytes} {d : Option Bytes} → k .Raise c (worded t d c) → k .Pair e e′ →
       k .Pair (onContent (updatedBy c) e) (onContent (updatedBy (worded t d c)) e′)
-  pub acts : {e e′ : Entry Alarm} (x : Action) (t : ℕ) → k .Pair e e′ → k .Pair (onContent (actedOn x t) e) (onContent (actedOn x t) e′)
+  pub acts : {e e′ : Entry Alarm} (d : Deed) (t : ℕ) → k .Pair e e′ → k .Pair (onContent (actedOn d t) e) (onContent (actedOn d t) e′)
+  pub lifts : {e e′ : Entry Alarm} (t : ℕ) → k .Pair e e′ → k .Pair (onContent (liftedBy t) e) (onContent (liftedBy t) e′)
   pub news : {c : RaiseValue} {t : Bytes} {d : Option Bytes} (i : Bytes) → length i ≡ 16 → k .Raise c (worded t d c) → k .New (newAlarm c i) (newAlarm (worded t d c) i)
   -- what goes into history
   pub clears : {e e′ : Entry Alarm} (t : ℕ) → k .Pair e e′ → k .Past (clearedBy t (e .content)) (clearedBy t (e′ .content))

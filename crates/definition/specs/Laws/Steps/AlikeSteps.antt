@@ -1,26 +1,27 @@
 -- Steps on two stations that are alike: one law for each step. Each says that both stations stay legal and alike, that a call is refused on
 -- both with the same number of the table, and that the active length moves by what is answered. For the laws of calls on twins
 -- (TwinSteps) and on stations that are near (NearSteps).
-use Prim.Native.Nat.{ℕ, zero, suc, _+_}
+use Prim.Native.Nat.{ℕ, zero, suc, _+_, _-_, _*_, _≤_}
 use mathlib.Core.Path.{_≡_, refl, ap, _∙_, subst}
 use mathlib.Core.List.{List, [], _∷_}
+use mathlib.Core.Bool.{Bool}
 use mathlib.Core.Option.{Option, none, some}
 use native.Mathlib.Omega.{arith}
 use lib.Dec.{eqb, ltb}
 use lib.ListN.{length}
 use borrow.Author.Tests.{leb-false}
 use Rattle.octets.specs.Bytes.{Bytes, same}
-use Rattle.definition.specs.Value.{RaiseValue, ClearValue, PlainValue, Action, acknowledging, suppressing}
+use Rattle.definition.specs.Value.{RaiseValue, ClearValue, PlainValue, Action, acknowledging, suppressing, Deed, untimed, deedAction, deedEnd}
 use Rattle.definition.specs.Key.{keyOf}
 use Rattle.definition.specs.Laws.Text.Key.{length-key}
 use Rattle.definition.specs.Chain.{Entry, entry}
-use Rattle.definition.specs.Alarm.{Alarm, hasKey, hasId}
+use Rattle.definition.specs.Alarm.{Alarm, hasKey, hasId, isDue, isOver}
 use Rattle.definition.specs.Station.{Station, Step, give, forEach}
-use Rattle.definition.specs.Answer.{Answer, Updated, ActiveLimitExceeded}
-use Rattle.definition.specs.Steps.{change, retire, updatedBy, newAlarm, store, storeNew, raiseAt, raise, clearAt, clear, actionAnswer, actedOn, act, plainAt, plain, isDueEntry, retireDue, expire}
+use Rattle.definition.specs.Answer.{Answer, Updated, ActiveLimitExceeded, Expired, Lifted}
+use Rattle.definition.specs.Steps.{revise, change, retire, updatedBy, newAlarm, store, storeNew, raiseAt, raise, clearAt, clear, actionAnswer, actedOn, act, plainAt, plain, onEntry, round, retireDue, expire, liftOver, lift}
 use Rattle.definition.specs.Perform.{inRecord}
-use Rattle.definition.specs.Contracts.LegalFields.{Time, LegalRaise}
-use Rattle.definition.specs.Laws.Steps.ChangedLegal.{past, updated-legal, new-legal, cleared-legal, acted-legal, expired-legal}
+use Rattle.definition.specs.Contracts.LegalFields.{Time, Maybe, LegalRaise}
+use Rattle.definition.specs.Laws.Steps.ChangedLegal.{past, updated-legal, new-legal, cleared-legal, acted-legal, expired-legal, lifted-legal}
 use Rattle.definition.specs.Laws.Steps.Answers.{Said, tells, said}
 use Rattle.definition.specs.Laws.Book.Occurrences.{length-without}
 use Rattle.definition.specs.Laws.Steps.PairedChains.{nothing, picked-left, picked-length, those-each, picked-each, length-each}
@@ -37,6 +38,9 @@ module _ {k : Likeness} (l : Lasting k) where
   pub settled : {n : ℕ} {d d′ : List (Entry Alarm)} {s t : Station} → On k n d d′ s t → On k (length (s .active)) [] [] s t
   settled p = record { legal = p .legal; legal′ = p .legal′; size = refl; limit = p .limit; pairs = p .pairs; picked = nothing; rest = p .rest }
 
+  resized : {n m : ℕ} {d d′ : List (Entry Alarm)} {s t : Station} → n ≡ m → On k n d d′ s t → On k m d d′ s t
+  resized e p = record { legal = p .legal; legal′ = p .legal′; size = p .size ∙ e; limit = p .limit; pairs = p .pairs; picked = p .picked; rest = p .rest }
+
   pub told : {i m n : ℕ} {d d′ : List (Entry Alarm)} {x x′ : Answer} → k .Says x x′ → said x .kind ≡ i → n + said x .came ≡ m + said x .went → (s t : Station) → On k m d d′ s t → Told k i n x x′ s t
   told h j e s t p = record { says = h; kind = j; even = e ∙ omega (arith, p .size); on = settled p }
 
@@ -47,10 +51,15 @@ module _ {k : Likeness} (l : Lasting k) where
   pub quiet : {n : ℕ} {d d′ : List (Entry Alarm)} {x x′ : Answer} → k .Says x x′ → Neutral x → Related (On k n d d′) (Told k 0 n) (give x) (give x′)
   quiet h q = give-related (told h (ap (λ (z : Said). z .kind) q) (omega (arith, ap (λ (z : Said). z .came) q, ap (λ (z : Said). z .went) q)))
 
+  revise-like : {n : ℕ} {e e′ : Entry Alarm} {d d′ : List (Entry Alarm)} {a a′ : Alarm} → k .Pair (entry (e .index) a) (entry (e′ .index) a′) → BothLegal 3 a a′ →
+      Related (On k n (e ∷ d) (e′ ∷ d′)) (Only (On k n d d′)) (revise (e .index) a) (revise (e′ .index) a′)
+  unfolding revise
+  revise-like h g = then-related (change-active l h g) (l .files (l .pairPast h) (both-past g))
+
   pub change-like : {n : ℕ} {e e′ : Entry Alarm} {a a′ : Alarm} (answer : Alarm → Answer) → k .Pair (entry (e .index) a) (entry (e′ .index) a′) → BothLegal 3 a a′ → k .Says (answer a) (answer a′) → Neutral (answer a) →
       Related (On k n (e ∷ []) (e′ ∷ [])) (Told k 0 n) (change answer (e .index) a) (change answer (e′ .index) a′)
   unfolding change
-  change-like answer h g q z = then-related (change-active l h g) (then-related (l .files (l .pairPast h) (both-past g)) (quiet q z))
+  change-like answer h g q z = then-related (revise-like h g) (quiet q z)
 
   retire-like : {n : ℕ} {e e′ : Entry Alarm} {d d′ : List (Entry Alarm)} {a a′ : Alarm} → k .Past a a′ → BothLegal 5 a a′ →
       Related (On k (suc n) (e ∷ d) (e′ ∷ d′)) (Only (On k n d d′)) (retire (e .index) a) (retire (e′ .index) a′)
@@ -98,11 +107,12 @@ module _ {k : Likeness} (l : Lasting k) where
 
   -- ---- acknowledge and suppress
 
-  pub act-like : {n : ℕ} (x : Action) (t : ℕ) → Time t → (e e′ : Entry Alarm) → k .Pair e e′ → BothLegal 3 (e .content) (e′ .content) →
-      Related (On k n (e ∷ []) (e′ ∷ [])) (Told k 0 n) (act x t e) (act x t e′)
+  pub act-like : {n : ℕ} (d : Deed) (t : ℕ) → Maybe Time (deedEnd d) → Time t → (e e′ : Entry Alarm) → k .Pair e e′ → BothLegal 3 (e .content) (e′ .content) →
+      Related (On k n (e ∷ []) (e′ ∷ [])) (Told k 0 n) (act d t e) (act d t e′)
   unfolding act actedOn
-  act-like x t h e e′ q g =
-      change-like (actionAnswer x) (l .acts x t q) (acted-legal x t (e .content) h (g .0), acted-legal x t (e′ .content) h (g .1)) (l .saysActed x (l .acts x t q)) (neutral x _)
+  act-like d t z h e e′ q g =
+      let x = deedAction d in
+      change-like (actionAnswer x) (l .acts d t q) (acted-legal d t (e .content) z h (g .0), acted-legal d t (e′ .content) z h (g .1)) (l .saysActed x (l .acts d t q)) (neutral x _)
     where
       neutral : (x : Action) (a : Alarm) → said (actionAnswer x a) ≡ tells 0 0 0
       neutral acknowledging a = refl
@@ -112,38 +122,63 @@ module _ {k : Likeness} (l : Lasting k) where
   unfolding plain plainAt
   plain-like x p h =
       cond-related (eqb (p .authorised) 0) (quiet (l .saysSame _) refl)
-      (search-like l _ _ (hasId (p .id)) (λ e e′ q. ap (same (p .id)) (l .ids q)) (λ s t q. q) (quiet (l .saysSame _) refl) (act-like x (p .time) h))
+      (search-like l _ _ (hasId (p .id)) (λ e e′ q. ap (same (p .id)) (l .ids q)) (λ s t q. q) (quiet (l .saysSame _) refl) (act-like (untimed x) (p .time) tt h))
 
-  -- ---- expire
+  -- ---- rounds along the active chain
 
   -- so many less than n
   abbrev Fewer : ℕ → ℕ → Station → Station → Type 0
   Fewer n m s t = On k (length (s .active)) [] [] s t × (length (s .active) + m ≡ n)
 
-  -- an alarm that is due goes off the active chain
-  retireDue-like : {n : ℕ} {e e′ : Entry Alarm} {d d′ : List (Entry Alarm)} (u : ℕ) → Time u → k .Pair e e′ → BothLegal 3 (e .content) (e′ .content) →
-      Related (On k (suc n) (e ∷ d) (e′ ∷ d′)) (Only (On k n d d′)) (retireDue u e) (retireDue u e′)
-  retireDue-like {e = e} {e′} u h q g = retire-like (l .expires u q) (expired-legal u (e .content) h (g .0), expired-legal u (e′ .content) h (g .1))
+  -- a step of a round, which takes w alarms off the chain: one if it expires them, none if it changes them where they stand
+  record Passes (w : ℕ) (m : Entry Alarm → Step (Unit {0})) : Type 0 where
+    there : {n : ℕ} {e e′ : Entry Alarm} {d d′ : List (Entry Alarm)} {s t : Station} → On k n (e ∷ d) (e′ ∷ d′) s t → w ≤ n
+    goes : {n : ℕ} {e e′ : Entry Alarm} {d d′ : List (Entry Alarm)} → k .Pair e e′ → BothLegal 3 (e .content) (e′ .content) →
+        Related (On k (w + n) (e ∷ d) (e′ ∷ d′)) (Only (On k n d d′)) (m e) (m e′)
 
-  retires-like : (u : ℕ) → Time u → {n : ℕ} (d d′ : List (Entry Alarm)) → Related (On k n d d′) (Only (Fewer n (length d))) (forEach d (retireDue u)) (forEach d′ (retireDue u))
-  unfolding forEach
-  retires-like u h [] [] = give-related (λ s t p. (settled p, omega (arith, p .size)))
-  retires-like u h {n = suc n} (e ∷ d) (e′ ∷ d′) =
-      known-related {F = k .Pair e e′ × BothLegal 3 (e .content) (e′ .content)} (λ s t p. (picked-each (k .Pair) {d = e ∷ d} {d′ = e′ ∷ d′} (p .picked) (p .pairs) .0, found-legal p))
-      (λ (q, g). then-related (retireDue-like u h q g) (post-related (λ u v s t p. (p .0, omega (arith, p .1))) (retires-like u h {n = n} d d′)))
-  retires-like u h {n = zero} (e ∷ d) (e′ ∷ d′) = never-related (λ s t p. omega (arith, p .size, length-without (e .index) (s .active) (picked-left (p .picked))))
-  retires-like u h [] (e ∷ d) = never-related (λ s t p. picked-each (k .Pair) {d = []} {d′ = e ∷ d} (p .picked) (p .pairs))
-  retires-like u h (e ∷ d) [] = never-related (λ s t p. picked-each (k .Pair) {d = e ∷ d} {d′ = []} (p .picked) (p .pairs))
+  module _ {w : ℕ} {m : Entry Alarm → Step (Unit {0})} (x : Passes w m) where
+    each-like : {n : ℕ} (d d′ : List (Entry Alarm)) → Related (On k n d d′) (Only (Fewer n (w * length d))) (forEach d m) (forEach d′ m)
+    unfolding forEach
+    each-like [] [] = give-related (λ s t p. (settled p, omega (arith, p .size)))
+    each-like {n = n} (e ∷ d) (e′ ∷ d′) =
+        known-related {F = (w ≤ n) × k .Pair e e′ × BothLegal 3 (e .content) (e′ .content)}
+        (λ s t p. (x .there p, picked-each (k .Pair) {d = e ∷ d} {d′ = e′ ∷ d′} (p .picked) (p .pairs) .0, found-legal p))
+        (λ (h, q, g). pre-related (λ s t p. resized (omega arith) p)
+        (then-related (x .goes {n = n - w} q g) (post-related (λ u v s t p. (p .0, omega (arith, p .1))) (each-like {n = n - w} d d′))))
+    each-like [] (e ∷ d) = never-related (λ s t p. picked-each (k .Pair) {d = []} {d′ = e ∷ d} (p .picked) (p .pairs))
+    each-like (e ∷ d) [] = never-related (λ s t p. picked-each (k .Pair) {d = e ∷ d} {d′ = []} (p .picked) (p .pairs))
+
+    round-like : {i n : ℕ} (t : Alarm → Bool) (answer : ℕ → Answer) → ((e e′ : Entry Alarm) → k .Pair e e′ → t (e .content) ≡ t (e′ .content)) →
+        ((c : ℕ) → (said (answer c) .kind ≡ i) × (said (answer c) .came ≡ 0) × (said (answer c) .went ≡ w * c)) → Related (On k n [] []) (Told k i n) (round t m answer) (round t m answer)
+    unfolding round
+    round-like {n = n} t answer f z =
+        bind-related {Q = λ d d′ s r. (length d ≡ length d′) × On k n d d′ s r}
+        (look-related (λ s r p.
+        let y = those-each (k .Pair) (onEntry t) f (s .active) (r .active) (p .pairs) in
+        (picked-length y, pick l p y)))
+        (λ d d′. known-related (λ s r p. p .0) (λ q. pre-related (λ s r p. p .1) (then-related (each-like d d′)
+        (rw q (give-related (λ s r p. record {
+          says = l .saysSame _;
+          kind = z (length d′) .0;
+          even = omega (arith, p .1, z (length d′) .1, z (length d′) .2);
+          on = p .0;
+        }))))))
 
   pub expire-like : {n : ℕ} (t : ℕ) → Time t → Related (On k n [] []) (Told k 7 n) (expire t) (expire t)
   unfolding expire
-  expire-like {n} t h =
-      bind-related {Q = λ d d′ s r. (length d ≡ length d′) × On k n d d′ s r}
-      (look-related (λ s r p.
-      let z = those-each (k .Pair) (isDueEntry t) (λ e e′ q. l .due t q) (s .active) (r .active) (p .pairs) in
-      (picked-length z, pick l p z)))
-      (λ d d′. known-related (λ s r p. p .0) (λ q. pre-related (λ s r p. p .1) (then-related (retires-like t h d d′)
-      (rw q (give-related (λ s r p. record { says = l .saysSame _; kind = refl; even = omega (arith, p .1); on = p .0 }))))))
+  expire-like t h =
+      round-like {w = 1} {m = retireDue t} (record {
+        there = λ {e = e} {s = s} p. omega (arith, p .size, length-without (e .index) (s .active) (picked-left (p .picked)));
+        goes = λ {n = n} {e} {e′} q g. pre-related (λ s r p. resized (omega arith) p) (retire-like {n = n} {e = e} {e′ = e′} (l .expires t q) (expired-legal t (e .content) h (g .0), expired-legal t (e′ .content) h (g .1)));
+      }) (isDue t) Expired (λ e e′ q. l .due t q) (λ c. (refl, refl, omega arith))
+
+  pub lift-like : {n : ℕ} (t : ℕ) → Time t → Related (On k n [] []) (Told k 0 n) (lift t) (lift t)
+  unfolding lift
+  lift-like t h =
+      round-like {w = 0} {m = liftOver t} (record {
+        there = λ p. omega arith;
+        goes = λ {n = n} {e} {e′} q g. pre-related (λ s r p. resized (omega arith) p) (revise-like {n = n} {e = e} {e′ = e′} (l .lifts t q) (lifted-legal t (e .content) h (g .0), lifted-legal t (e′ .content) h (g .1)));
+      }) (isOver t) Lifted (λ e e′ q. l .over t q) (λ c. (refl, refl, omega arith))
 
   -- ---- in a record's room
 

@@ -13,7 +13,7 @@ use Rattle.octets.specs.NumberLaws.{length-digits}
 use Rattle.definition.specs.Mask.{listsRecords}
 use Rattle.definition.specs.Alarm.{Alarm, Event}
 use Rattle.definition.specs.Laws.Record.Payloads.{length-alarm, length-event}
-use Rattle.definition.specs.Answer.{Answer, Raised, Updated, Cleared, ClearWithoutActive, ActiveLimitExceeded, Suppressed, Acknowledged, Unauthorized, AuditFailed, NotFound, Expired, Alarms, Counts, Summary, Events, Head, headBytes, headOf, alarmRecord, eventRecord, alarmRecords, eventRecords, body, answerBytes}
+use Rattle.definition.specs.Answer.{Answer, Raised, Updated, Cleared, ClearWithoutActive, ActiveLimitExceeded, Suppressed, Acknowledged, Unauthorized, AuditFailed, NotFound, Expired, Lifted, Alarms, Counts, Summary, Events, Head, headBytes, headOf, alarmRecord, eventRecord, alarmRecords, eventRecords, body, answerBytes}
 use Rattle.definition.specs.Laws.Book.Contents.{length-map}
 use Rattle.definition.specs.Laws.Twins.Blank.{blank}
 
@@ -32,6 +32,7 @@ kind (Unauthorized m) = 0
 kind (AuditFailed m) = 0
 kind (NotFound i) = 0
 kind (Expired n) = 7
+kind (Lifted n) = 0
 kind (Alarms l) = 8
 kind (Counts l) = 0
 kind (Summary t) = 0
@@ -94,6 +95,7 @@ blankAnswer (Unauthorized m) = Unauthorized m
 blankAnswer (AuditFailed m) = AuditFailed m
 blankAnswer (NotFound i) = NotFound i
 blankAnswer (Expired n) = Expired n
+blankAnswer (Lifted n) = Lifted n
 blankAnswer (Alarms l) = Alarms (map blank l)
 blankAnswer (Counts l) = Counts l
 blankAnswer (Summary t) = Summary t
@@ -132,6 +134,7 @@ body-blank (Unauthorized m) = refl
 body-blank (AuditFailed m) = refl
 body-blank (NotFound i) = refl
 body-blank (Expired n) = refl
+body-blank (Lifted n) = refl
 body-blank (Alarms l) =
     length-alarmRecords (map blank l) ∙ ap (λ (n : ℕ). 1536 * n) (length-map blank l) ∙ sym (length-alarmRecords l)
 body-blank (Counts l) = refl

@@ -1,5 +1,5 @@
 -- What goes into history keeps a station legal, and the active chain as it was; and wherever a step takes a record, one is free. For the sweep
--- of `expiry`, which retires alarms, for M-107, and for the reach.
+-- of `expiry`, which retires and revises alarms, for M-107, and for the reach.
 use Prim.Native.Nat.{ℕ, _≤_, _<_}
 use mathlib.Core.Path.{_≡_, refl, _∙_}
 use mathlib.Core.List.{List, [], _∷_}
@@ -8,14 +8,15 @@ use mathlib.Core.Option.{Option, none, some}
 use lib.Dec.{leb}
 use lib.ListN.{length}
 use borrow.Author.Tests.{leb-true, leb-false}
-use Rattle.definition.specs.Chain.{Entry, newest, without, times}
+use Rattle.definition.specs.Chain.{Entry, newest, without, replaced, times}
 use Rattle.definition.specs.Alarm.{Alarm, Event, sameIdentity}
-use Rattle.definition.specs.Station.{Station, Outcome, done, Step, _>>=_, give, forEach, activeFull, auditFull, freeOldestHistory}
-use Rattle.definition.specs.Steps.{makeRoom, extendHistory, historyAfter, intoHistory, retire}
+use Rattle.definition.specs.Station.{Station, Outcome, done, Step, _>>=_, give, forEach, activeFull, auditFull, withActive, changeActive, freeOldestHistory}
+use Rattle.definition.specs.Steps.{makeRoom, extendHistory, historyAfter, intoHistory, revise, retire}
 use Rattle.definition.specs.Reports.{freeOne}
 use Rattle.definition.specs.Contracts.LegalFields.{LegalAlarm}
 use Rattle.definition.specs.Contracts.LegalStation.{LegalStation}
-use Rattle.definition.specs.Laws.Steps.LegalMoves.{Ends, ok, ends-after, ends-weaken, Aside, Free, active-free, history-free, audit-free, addHistory-legal, freeActive-legal, freeOldestHistory-legal, freeOldestAudit-legal, changeHistory-legal}
+use Rattle.definition.specs.Laws.Steps.LegalMoves.{Ends, ok, ended, ends-after, ends-weaken, Aside, Free, active-free, history-free, audit-free, addHistory-legal, freeActive-legal, freeOldestHistory-legal, freeOldestAudit-legal, changeActive-legal, changeHistory-legal}
+use Rattle.definition.specs.Laws.Steps.ChangedLegal.{past}
 
 cond-ends : {A : Type 0} {Q : A → Station → Type 0} {s : Station} (b : Bool) (m n : Step A) → Ends Q (m s) → Ends Q (n s) → Ends Q (cond b m n s)
 cond-ends true m n p q = p
@@ -59,6 +60,12 @@ frees-legal (e ∷ d) s l = ends-after _ (freeOldestAudit-legal s l) (λ u t p. 
 -- ---- a step on the active chain
 
 module _ (s : Station) (l : LegalStation s) where
+  pub revise-legal : (i : ℕ) (a : Alarm) → LegalAlarm 3 a → Ends (λ u t. t .active ≡ replaced i a (s .active)) (revise i a s)
+  unfolding revise changeActive _>>=_
+  revise-legal i a f =
+      let t = withActive (replaced i a (s .active)) (s .free) s in
+      ends-weaken (intoHistory-legal t (ended (changeActive-legal s l i a f)) a (past a f)) (λ v r q. q .same)
+
   pub retire-legal : (i : ℕ) (a : Alarm) → LegalAlarm 5 a → 1 ≤ times i (s .active) → Ends (λ u t. LegalStation t × (t .active ≡ without i (s .active)) × (t .limitA ≡ s .limitA)) (retire i a s)
   unfolding retire _>>=_
   retire-legal i a f h =

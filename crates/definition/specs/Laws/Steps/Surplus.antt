@@ -17,12 +17,12 @@ use lib.Dec.{eqb, ltb}
 use lib.ListN.{length, getD, drop}
 use borrow.Author.Tests.{eq-eqb, ne-eqb}
 use Rattle.octets.specs.Bytes.{Bytes}
-use Rattle.definition.specs.Value.{RaiseValue, ClearValue, PlainValue, PolicyValue, CallValue, Action, acknowledging, suppressing}
+use Rattle.definition.specs.Value.{RaiseValue, ClearValue, PlainValue, PolicyValue, CallValue, Action, acknowledging, suppressing, Deed, untimed, until, deedAction}
 use Rattle.definition.specs.Chain.{Entry, entry, present, without, times}
 use Rattle.definition.specs.Alarm.{Alarm, Event, sameIdentity}
 use Rattle.definition.specs.Station.{Station, Outcome, done, stopped, Step, after, _>>=_, give, refuse, look, forEach, addActive, addHistory, addAudit, freeActive, oldestHistoryOf, freeOldestHistory, oldestAuditOf, freeOldestAudit, changeActive, changeHistory, countSuccess, countFailure}
 use Rattle.definition.specs.Answer.{Answer, answerBytes}
-use Rattle.definition.specs.Steps.{makeRoom, extendHistory, historyAfter, intoHistory, change, retire, store, storeNew, raiseAt, raise, clearAt, clear, act, plainAt, plain, eventStored, eventLost, attempt, deny, allow, needsOverride, policyAt, policy, expire}
+use Rattle.definition.specs.Steps.{makeRoom, extendHistory, historyAfter, intoHistory, revise, change, retire, store, storeNew, raiseAt, raise, clearAt, clear, act, plainAt, plain, eventStored, eventLost, attempt, deny, allow, needsOverride, policyAt, policy, round, expire, lift}
 use Rattle.definition.specs.Reports.{activeList, historyList, counts, summary, takeAudit}
 use Rattle.definition.specs.Perform.{inRecord, inLength, perform}
 use Rattle.definition.specs.Contracts.LegalStation.{records, timesIn, LegalChains}
@@ -163,9 +163,13 @@ module _ (z : ℕ) where
     from = λ s p. let g = finds-free z (s .active) (s .free) a (omega arith) in (omega (arith, g .0), ap (λ f. addActive a (withFree f s)) (g .1));
   }
 
+  revises : (i : ℕ) (a : Alarm) → Frugal (revise i a)
+  unfolding revise changeActive
+  revises i a = bind (record { from = λ s p. (omega (arith, times-replaced i a 0 (s .active)), refl) }) (λ u. into-history a)
+
   changes : (answer : Alarm → Answer) (i : ℕ) (a : Alarm) → Frugal (change answer i a)
-  unfolding change changeActive
-  changes answer i a = bind (record { from = λ s p. (omega (arith, times-replaced i a 0 (s .active)), refl) }) (λ u. bind (into-history a) (λ v. gives))
+  unfolding change
+  changes answer i a = bind (revises i a) (λ u. gives)
 
   retires : (i : ℕ) (a : Alarm) → Frugal (retire i a)
   unfolding retire freeActive
@@ -190,9 +194,17 @@ module _ (z : ℕ) where
   unfolding clear clearAt
   clears c = bind (looks (λ s. refl)) (option _ gives (λ e. bind (retires (e .index) _) (λ u. gives)))
 
+  rounds : (t : Alarm → Bool) (m : Entry Alarm → Step (Unit {0})) (answer : ℕ → Answer) → ((e : Entry Alarm) → Frugal (m e)) → Frugal (round t m answer)
+  unfolding round
+  rounds t m answer x = bind (looks (λ s. refl)) (λ d. bind (each x d) (λ u. gives))
+
   expires : (t : ℕ) → Frugal (expire t)
   unfolding expire
-  expires t = bind (looks (λ s. refl)) (λ d. bind (each (λ e. retires (e .index) _) d) (λ u. gives))
+  expires t = rounds _ _ _ (λ e. retires (e .index) _)
+
+  lifts : (t : ℕ) → Frugal (lift t)
+  unfolding lift
+  lifts t = rounds _ _ _ (λ e. revises (e .index) _)
 
   acts-plain : (x : Action) (p : PlainValue) → Frugal (plain x p)
   unfolding plain plainAt act
@@ -225,10 +237,10 @@ module _ (z : ℕ) where
   unfolding deny
   denies v m = bind (attempts v) (λ b. gives)
 
-  acts-policy : (x : Action) (p : PolicyValue) → Frugal (policy x p)
+  acts-policy : (d : Deed) (p : PolicyValue) → Frugal (policy d p)
   unfolding policy policyAt allow act
-  acts-policy x p = bind (looks (λ s. refl)) (option _ gives (λ e.
-      either (needsOverride x p (e .content)) (denies _ _)
+  acts-policy d p = bind (looks (λ s. refl)) (option _ gives (λ e.
+      either (needsOverride (deedAction d) p (e .content)) (denies _ _)
       (either (eqb (p .verdict .authorised) 0) (denies _ _) (bind (attempts _) (λ b. either b (changes _ _ _) gives)))))
 
   gives-events : (n : ℕ) → Steady (takeAudit n)
@@ -251,14 +263,16 @@ module _ (z : ℕ) where
   performs (CallValue.clear c) n = in-record n (clears c)
   performs (CallValue.plain acknowledging p) n = in-record n (acts-plain acknowledging p)
   performs (CallValue.plain suppressing p) n = in-record n (acts-plain suppressing p)
-  performs (CallValue.policy acknowledging p) n = in-record n (acts-policy acknowledging p)
-  performs (CallValue.policy suppressing p) n = in-record n (acts-policy suppressing p)
+  performs (CallValue.policy (untimed acknowledging) p) n = in-record n (acts-policy (untimed acknowledging) p)
+  performs (CallValue.policy (untimed suppressing) p) n = in-record n (acts-policy (untimed suppressing) p)
+  performs (CallValue.policy (until t) p) n = in-record n (acts-policy (until t) p)
   performs (CallValue.expire t) n = in-record n (expires t)
   performs (CallValue.active v) n = in-length n (looks (λ s. refl))
   performs (CallValue.history t l) n = in-length n (looks (λ s. refl))
   performs CallValue.counts n = in-length n (looks (λ s. refl))
   performs CallValue.summary n = in-record n (looks (λ s. refl))
   performs (CallValue.takeAudit k) n = in-length n (gives-events k)
+  performs (CallValue.lift t) n = in-record n (lifts t)
   performs (CallValue.refused k) n = in-length n refuses
 
   -- what the call does with a record more is what it does without

@@ -1,5 +1,5 @@
 -- The bytes of the table's calls, field by field as "The call enters" lists them: "operation byte, then fields in order, nothing after".
--- For the rows of Marked, for EachNumber, YearlyBalance, WrongSeverity, Headline, Raises and Characters, and for the twins in TwinRaises.
+-- For the rows of Marked, for EachNumber, YearlyBalance, WrongSeverity, Headline, Raises, Characters and Suppressions, and for the twins in TwinRaises.
 use Prim.Native.Nat.{ℕ}
 use Prim.Native.String.{String}
 use mathlib.Core.List.{[], _∷_, _++_}
@@ -77,16 +77,24 @@ suppress id authorised = plainly 4 id authorised
 
 -- ---- "5, 6 the same with policy: time, id, principal, tenant?, reason, scope, correlation?, critical-allowed (0 or 1), authorised (0 or 1),
 -- ---- denial message": principal `p`, no reason, scope 2, "global", critical-allowed 0, denial `no`
-abbrev byPolicy : ℕ → ℕ → String → ℕ → Bytes
-byPolicy op time id authorised =
-    join (byte op ∷ be64 time ∷ sent id ∷ sent "p" ∷ absent ∷ sent "" ∷ byte 2 ∷ absent ∷ byte 0 ∷ byte authorised ∷ sent "no" ∷ [])
+abbrev byPolicy : ℕ → Bytes → String → ℕ → Bytes
+byPolicy op times id authorised =
+    join (byte op ∷ times ∷ sent id ∷ sent "p" ∷ absent ∷ sent "" ∷ byte 2 ∷ absent ∷ byte 0 ∷ byte authorised ∷ sent "no" ∷ [])
 
 abbrev pub acknowledgeByPolicy : String → ℕ → Bytes
-acknowledgeByPolicy id authorised = byPolicy 5 0 id authorised
+acknowledgeByPolicy id authorised = byPolicy 5 (be64 0) id authorised
 
 abbrev pub suppressByPolicy : ℕ → String → ℕ → Bytes
-suppressByPolicy time id authorised = byPolicy 6 time id authorised
+suppressByPolicy time id authorised = byPolicy 6 (be64 time) id authorised
+
+-- M-105: "an end time, directly after the call's time"; authorised
+abbrev pub suppressUntil : ℕ → ℕ → String → Bytes
+suppressUntil time end id = byPolicy 13 (be64 time ++ be64 end) id 1
 
 -- ---- "7 expire: cutoff time"
 abbrev pub expire : ℕ → Bytes
 expire cutoff = join (byte 7 ∷ be64 cutoff ∷ [])
+
+-- ---- M-105: "Operation 14 carries a cutoff"
+abbrev pub lift : ℕ → Bytes
+lift cutoff = join (byte 14 ∷ be64 cutoff ∷ [])

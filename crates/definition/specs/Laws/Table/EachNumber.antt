@@ -10,7 +10,7 @@ use Rattle.definition.specs.Sound.{sound}
 use Rattle.definition.specs.Opening.{openOf}
 use Rattle.definition.specs.Lists.{Reply, stepOf, run}
 use Rattle.definition.specs.Numbers.{openingRefusals, stepRefusals}
-use Rattle.definition.specs.Laws.Table.Calls.{byte, sent, absent, present, tenant, sentBeforeText, raiseOf, raise, acknowledge}
+use Rattle.definition.specs.Laws.Table.Calls.{byte, sent, absent, present, tenant, sentBeforeText, raiseOf, raise, acknowledge, suppressUntil}
 use Rattle.definition.specs.Laws.Table.Shown.{register, ample}
 use Rattle.definition.specs.Laws.Table.Stations.{allOctets, computed, by-stations-of}
 
@@ -30,11 +30,11 @@ abbrev toText : ℕ → Bytes
 toText n = join (byte 1 ∷ sentBeforeText 0 "a" "lease-lost" (tenant "a") absent ∷ be32 n ∷ replicate n 120 ∷ [])
 
 -- behind a raise of id `a`: 23 nothing; 24 ends early; 25 authorised is 2; 26 an id of 65 bytes; 27 one of the byte 255; 28 a cause without a
--- dot; 29 an empty region; 33 a text of 121 letters; 30 an answer slice of 1,551 bytes; 31 id `a` on another object
+-- dot; 29 an empty region; 33 a text of 121 letters; 34 an end at the call's time; 30 an answer slice of 1,551 bytes; 31 id `a` on another object
 abbrev pub faults : List (Bytes × ℕ)
 faults =
     ample (raise 0 "a" "a") ∷ ample [] ∷ ample (toId 1) ∷ ample (acknowledge "a" 2) ∷ ample (toId 65) ∷ ample (join (toId 1 ∷ byte 255 ∷ []))
-    ∷ ample (raiseOf 0 "a" "other:a" (tenant "a") absent) ∷ ample emptyRegion ∷ ample (toText 121) ∷ (acknowledge "a" 1, 1551) ∷ ample (raise 0 "a" "b") ∷ []
+    ∷ ample (raiseOf 0 "a" "other:a" (tenant "a") absent) ∷ ample emptyRegion ∷ ample (toText 121) ∷ ample (suppressUntil 0 0 "a") ∷ (acknowledge "a" 1, 1551) ∷ ample (raise 0 "a" "b") ∷ []
 
 abbrev numbersOf : List Reply → List ℕ
 numbersOf q = map (λ (r : Reply). r .number) q

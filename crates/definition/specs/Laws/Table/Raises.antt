@@ -114,7 +114,7 @@ withFirstRaises-legal n k [] h s l = l
 withFirstRaises-legal n k (e ∷ c) h s l =
     let p = h .0 in
     ended (changeActive-legal s l (e .index) (withRaises n (e .content))
-    (changed-legal (e .content) p (p .severity) (p .text) (p .details) (p .state) (p .updatedAt) (p .clearedAt) k))
+    (changed-legal (e .content) p (p .severity) (p .text) (p .details) (p .state) (p .updatedAt) (p .clearedAt) k (p .end)))
 
 -- that behind `once`
 unfoldable behind : Station

@@ -1,5 +1,5 @@
 -- What the table shows: of calls on the fresh register with A=2, H=3, E=1, what each returned and answered, and bytes of the register that
--- they leave, at the offsets of docs/LAYOUT.md. For the rows of Marked, for EachNumber, YearlyBalance, WrongSeverity, Headline and Raises.
+-- they leave, at the offsets of docs/LAYOUT.md. For the rows of Marked, for EachNumber, YearlyBalance, WrongSeverity, Headline, Raises and Suppressions.
 use Prim.Native.Nat.{ℕ, zero, suc, _+_, _*_}
 use mathlib.Core.Path.{_≡_}
 use mathlib.Core.List.{List, [], _∷_, map}
@@ -84,7 +84,7 @@ offsets b zero i = []
 offsets b (suc n) i = 1536 * i ∷ offsets b n (at32 b (1536 * i))
 
 -- n bytes of each record on a chain, from a field's offset on: the chain's head is at `head` and its length behind it, in four bytes each
-abbrev ofChain : ℕ → ℕ → ℕ → Bytes → List Bytes
+abbrev pub ofChain : ℕ → ℕ → ℕ → Bytes → List Bytes
 ofChain head field n b = map (λ (k : ℕ). take n (drop (k + field) b)) (offsets b (at32 b (head + 4)) (at32 b head))
 
 -- active_head 12: updated_at 30 to 37; cause length 179, cause 181 to 276

@@ -1,6 +1,6 @@
 -- A list of calls on a legal station's bytes goes from station to station: a reply is what `perform` gives on the station, and its register
 -- is the next one's bytes. So rows of the table are computed without testing 10,752 bytes for soundness at each call. For Marked,
--- EachNumber, YearlyBalance, WrongSeverity, Headline and Raises.
+-- EachNumber, YearlyBalance, WrongSeverity, Headline, Raises and Suppressions.
 use Prim.Native.Nat.{ℕ, zero, suc}
 use mathlib.Core.Path.{_≡_, refl, ap, _∙_}
 use mathlib.Core.List.{List, [], _∷_, map}

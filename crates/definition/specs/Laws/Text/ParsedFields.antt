@@ -17,7 +17,7 @@ use Rattle.definition.specs.Cause.{causeOf}
 use Rattle.definition.specs.Laws.Text.Cause.{cause-stored, cause-length, cause-utf8}
 use Rattle.definition.specs.Value.{ObjectValue, PlacesValue, KeyValue, RaiseHeadValue, ScopeValue, ActorValue, RequestValue}
 use Rattle.definition.specs.Reader.{Out, got, bad, Reader, next, _>>=_, give, refuse, into, bytes, number, choice, blob, text, optional, causeIs, causeText}
-use Rattle.definition.specs.Parse.{pair, sessionStore, dataPlaneQueue, objectOf, object, scopeOf, scope, raiseHead, places, key, raiseText, raiseBody, named, raiseFields, clearFields, plainFields, actor, request, verdict, policyFields, severityOrAll}
+use Rattle.definition.specs.Parse.{pair, sessionStore, dataPlaneQueue, objectOf, object, scopeOf, scope, raiseHead, places, key, raiseText, raiseBody, named, raiseFields, clearFields, plainFields, actor, request, verdict, policyFrom, policyFields, severityOrAll}
 use Rattle.definition.specs.Numbers.{callRefusals, Among}
 use Rattle.definition.specs.Contracts.LegalFields.{Time, Maybe, BlobOf, TextOf, CauseOf, ObjectOf, LegalKey, LegalScope, LegalRaise, LegalPolicy}
 
@@ -237,11 +237,11 @@ record ReadActor (a : ActorValue) : Type 0 where
   principal : TextOf shortLimit (a .principal)
   tenant : Maybe (TextOf shortLimit) (a .tenant)
 
-actor-reads : Reads ReadActor actor
+actor-reads : (t : ℕ) → Time t → Reads ReadActor (actor t)
 unfolding actor
-actor-reads =
-    bind-reads _ _ (number-reads 8) (λ t pt. bind-reads _ _ (text-reads shortLimit) (λ i pi. bind-reads _ _ (text-reads shortLimit) (λ y py.
-    bind-reads _ _ (option-reads shortLimit) (λ v pv. give-reads ReadActor _ (record { time = pt; principal = py; tenant = pv })))))
+actor-reads t pt =
+    bind-reads _ _ (text-reads shortLimit) (λ i pi. bind-reads _ _ (text-reads shortLimit) (λ y py.
+    bind-reads _ _ (option-reads shortLimit) (λ v pv. give-reads ReadActor _ (record { time = pt; principal = py; tenant = pv }))))
 
 record ReadRequest (r : RequestValue) : Type 0 where
   reason : TextOf textLimit (r .reason)
@@ -258,12 +258,16 @@ verdict-reads : Reads (λ v. Unit {0}) verdict
 unfolding verdict
 verdict-reads = bind-reads _ _ (choice-reads 0 1) (λ c pc. bind-reads _ _ (choice-reads 0 1) (λ z pz. bind-reads _ _ (text-reads regionLimit) (λ d pd. give-reads _ _ tt)))
 
-pub policy-reads : Reads LegalPolicy policyFields
-unfolding policyFields
-policy-reads =
-    bind-reads _ _ actor-reads (λ a pa. bind-reads _ _ request-reads (λ r pr. bind-reads _ _ verdict-reads (λ v pv.
+pub behind-reads : (t : ℕ) → Time t → Reads LegalPolicy (policyFrom t)
+unfolding policyFrom
+behind-reads t pt =
+    bind-reads _ _ (actor-reads t pt) (λ a pa. bind-reads _ _ request-reads (λ r pr. bind-reads _ _ verdict-reads (λ v pv.
     give-reads LegalPolicy _
     (record { time = pa .time; principal = pa .principal; tenant = pa .tenant; reason = pr .reason; scope = pr .scope; correlation = pr .correlation }))))
+
+pub policy-reads : Reads LegalPolicy policyFields
+unfolding policyFields
+policy-reads = bind-reads _ _ (number-reads 8) behind-reads
 
 pub severity-reads : Reads (λ v. Unit {0}) severityOrAll
 unfolding severityOrAll

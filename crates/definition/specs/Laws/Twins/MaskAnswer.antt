@@ -10,7 +10,7 @@ use Rattle.octets.specs.NumberLaws.{length-be32, length-zeros}
 use Rattle.octets.specs.SpliceLaws.{splice-append, splice-front}
 use Rattle.definition.specs.Alarm.{Alarm}
 use Rattle.definition.specs.Record.{alarmBytes}
-use Rattle.definition.specs.Answer.{Answer, Raised, Updated, Cleared, ClearWithoutActive, ActiveLimitExceeded, Suppressed, Acknowledged, Unauthorized, AuditFailed, NotFound, Expired, Alarms, Counts, Summary, Events, Head, headBytes, headOf, alarmRecord, alarmRecords, answerBytes}
+use Rattle.definition.specs.Answer.{Answer, Raised, Updated, Cleared, ClearWithoutActive, ActiveLimitExceeded, Suppressed, Acknowledged, Unauthorized, AuditFailed, NotFound, Expired, Lifted, Alarms, Counts, Summary, Events, Head, headBytes, headOf, alarmRecord, alarmRecords, answerBytes}
 use Rattle.definition.specs.Laws.Steps.Answers.{length-head, length-alarmRecord, length-alarmRecords, lists, blankAnswer}
 use Rattle.definition.specs.Laws.Book.Contents.{length-map}
 use Rattle.definition.specs.Laws.Twins.Blank.{blank}
@@ -74,6 +74,7 @@ mask-kind (Unauthorized m) = refl
 mask-kind (AuditFailed m) = refl
 mask-kind (NotFound i) = refl
 mask-kind (Expired n) = refl
+mask-kind (Lifted n) = refl
 mask-kind (Alarms l) = rw (length-map blank l) (mask-list (headOf (Alarms l)) l)
 mask-kind (Counts l) = refl
 mask-kind (Summary t) = refl

@@ -12,10 +12,10 @@ use lib.ListN.{length}
 use borrow.Author.Tests.{ne-eqb}
 use Rattle.definition.specs.Value.{RaiseValue, Action, acknowledging, suppressing}
 use Rattle.definition.specs.Chain.{Entry, entry, contents, those, times}
-use Rattle.definition.specs.Alarm.{Alarm, withSeverity, hasSeverity, isDue}
+use Rattle.definition.specs.Alarm.{Alarm, withSeverity, hasSeverity, isDue, isOver}
 use Rattle.definition.specs.Station.{Station}
 use Rattle.definition.specs.Answer.{headOf}
-use Rattle.definition.specs.Steps.{updatedBy, newAlarm, actionAnswer, actedOn}
+use Rattle.definition.specs.Steps.{updatedBy, newAlarm, actionAnswer, actedOn, liftedBy}
 use Rattle.definition.specs.Twins.{AtEach}
 use Rattle.definition.specs.Reach.{WithinOne}
 use Rattle.definition.specs.Contracts.LegalStation.{LegalStation}
@@ -66,17 +66,19 @@ module _ (w : Wrong) where
   same-near i i′ p = record { alike = ap withoutSeverity p; same = λ n. p; severities = inl (ap (λ (a : Alarm). a .severity) p) }
 
   pub near-lasts : Lasting (near w)
-  unfolding updatedBy actedOn
+  unfolding updatedBy actedOn liftedBy
   near-lasts = record {
     keys = λ h. ap (λ (a : Alarm). a .key) (h .alike);
     ids = λ h. ap (λ (a : Alarm). a .id) (h .alike);
     due = λ t h. ap (isDue t) (h .alike);
+    over = λ t h. ap (isOver t) (h .alike);
     updates = λ r h. record {
       alike = ap₂ (λ (x : RaiseValue) (a : Alarm). withoutSeverity (updatedBy x a)) r (h .alike);
       same = λ n. ap₂ updatedBy r (h .same n);
       severities = inl (ap (λ (x : RaiseValue). x .head .severity) r);
     };
-    acts = λ x t h. record { alike = ap (λ (a : Alarm). withoutSeverity (actedOn x t a)) (h .alike); same = λ n. ap (actedOn x t) (h .same n); severities = h .severities };
+    acts = λ d t h. record { alike = ap (λ (a : Alarm). withoutSeverity (actedOn d t a)) (h .alike); same = λ n. ap (actedOn d t) (h .same n); severities = h .severities };
+    lifts = λ t h. record { alike = ap (λ (a : Alarm). withoutSeverity (liftedBy t a)) (h .alike); same = λ n. ap (liftedBy t) (h .same n); severities = h .severities };
     news = λ i h r. ap (λ (c : RaiseValue). newAlarm c i) r;
     clears = λ t h. tt;
     expires = λ t h. tt;

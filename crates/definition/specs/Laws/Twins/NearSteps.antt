@@ -11,7 +11,7 @@ use lib.Dec.{T, leb, ltb}
 use lib.ListN.{length, take}
 use borrow.Author.Tests.{leb-false}
 use Rattle.octets.specs.Bytes.{Bytes}
-use Rattle.definition.specs.Value.{RaiseValue, CallValue, opOf, acknowledging, suppressing}
+use Rattle.definition.specs.Value.{RaiseValue, CallValue, opOf, acknowledging, suppressing, untimed, until}
 use Rattle.definition.specs.Key.{keyOf}
 use Rattle.definition.specs.Laws.Text.Key.{length-key}
 use Rattle.definition.specs.Chain.{Entry, entry, contents, present, first}
@@ -30,7 +30,7 @@ use Rattle.definition.specs.Laws.Steps.LegalSteps.{frees-legal}
 use Rattle.definition.specs.Laws.Steps.PairedChains.{Search, found, first-each, picked-holds, length-each}
 use Rattle.definition.specs.Laws.Steps.SideBySide.{Both, both, neither, Related, post-related, after-both, then-related, give-related, look-related}
 use Rattle.definition.specs.Laws.Steps.Alike.{On, Told, go-on, pick, add-active-at}
-use Rattle.definition.specs.Laws.Steps.AlikeSteps.{settled, told, change-like, raise-like, clear-like, plain-like, expire-like, inRecord-like}
+use Rattle.definition.specs.Laws.Steps.AlikeSteps.{settled, told, change-like, raise-like, clear-like, plain-like, expire-like, lift-like, inRecord-like}
 use Rattle.definition.specs.Laws.Twins.KeptLegal.{stationAfter}
 use Rattle.definition.specs.Laws.Twins.NearStations.{Wrong, wrong, withoutSeverity, NearAt, near, near-lasts, near-self, alone}
 
@@ -165,14 +165,16 @@ near-call w (CallValue.raise c) n s t h q p = in-record p _ n (raise-like (near-
 near-call w (CallValue.clear c) n s t h q p = in-record p _ n (clear-like (near-lasts w) c h)
 near-call w (CallValue.plain acknowledging v) n s t h q p = in-record p _ n (plain-like (near-lasts w) acknowledging v h)
 near-call w (CallValue.plain suppressing v) n s t h q p = in-record p _ n (plain-like (near-lasts w) suppressing v h)
-near-call w (CallValue.policy acknowledging v) n s t h q p = silent (λ h. h) (rw (q tt .0, q tt .1) (settled (near-lasts w) p))
-near-call w (CallValue.policy suppressing v) n s t h q p = silent (λ h. h) (rw (q tt .0, q tt .1) (settled (near-lasts w) p))
+near-call w (CallValue.policy (untimed acknowledging) v) n s t h q p = silent (λ h. h) (rw (q tt .0, q tt .1) (settled (near-lasts w) p))
+near-call w (CallValue.policy (untimed suppressing) v) n s t h q p = silent (λ h. h) (rw (q tt .0, q tt .1) (settled (near-lasts w) p))
+near-call w (CallValue.policy (until u) v) n s t h q p = silent (λ h. h) (rw (q tt .0, q tt .1) (settled (near-lasts w) p))
 near-call w (CallValue.expire u) n s t h q p = in-record p _ n (expire-like (near-lasts w) u h)
 near-call w (CallValue.active v) n s t h q p = silent (λ h. h) (rw (looked n _ s, looked n _ t) (settled (near-lasts w) p))
 near-call w (CallValue.history u v) n s t h q p = silent (λ h. h) (rw (looked n _ s, looked n _ t) (settled (near-lasts w) p))
 near-call w CallValue.counts n s t h q p = silent (λ h. h) (rw (looked n _ s, looked n _ t) (settled (near-lasts w) p))
 near-call w CallValue.summary n s t h q p = in-record p _ n (summary-near w)
 near-call w (CallValue.takeAudit i) n s t h q p = silent (λ h. h) (settled (near-lasts w) (go-on p (audited n i s (p .legal)) (audited n i t (p .legal′)) tt))
+near-call w (CallValue.lift u) n s t h q p = in-record p _ n (lift-like (near-lasts w) u h)
 near-call w (CallValue.refused k) n s t h q p = record { on = settled (near-lasts w) p; heads = λ h. refl }
 
 -- the raise with the severity v, and the same with v′, on one station

@@ -7,7 +7,7 @@ use mathlib.Core.Bool.{Bool, true, false, _&&_, _||_}
 use native.Mathlib.Omega.{arith}
 use lib.Dec.{T, eqb}
 use lib.ListN.{length, length-append, drop}
-use borrow.Author.Tests.{eqb-true}
+use borrow.Author.Tests.{ne-eqb}
 use Rattle.octets.specs.Bytes.{Bytes}
 use Rattle.definition.specs.Station.{fresh}
 use Rattle.definition.specs.Sound.{sound}
@@ -72,18 +72,16 @@ from-fresh a h e v v′ b b′ l l′ f f′ =
     let p = opened-fresh a h e b f in
     from-one v v′ b b′ l l′ (rw (p .1) (legal-sound (fresh a h e) (p .0))) (opened-fresh a h e b′ f′ .1 ∙ sym (p .1))
 
--- operations 1 to 4 and 7 to 12 are no policy calls
+-- operations 1 to 4, 7 to 12 and 14 are no policy calls
 requested-aside : (l : List Made) → Requested l → NoPolicy l
 requested-aside [] h = tt
 requested-aside (m ∷ l) h = (aside (operation m) (isAnswered m) (h .0), requested-aside l (h .2))
   where
     aside : (op : ℕ) (y : Bool) → Among op requestedOperations → isPolicy op && y ≡ false
-    aside op y k = go (eqb op 5) refl (eqb op 6) refl
+    aside op y k = rw (isNot 5 (λ h. h), isNot 6 (λ h. h), isNot 13 (λ h. h)) refl
       where
-        go : (five : Bool) → eqb op 5 ≡ five → (six : Bool) → eqb op 6 ≡ six → (five || six) && y ≡ false
-        go true e six f = absurd (subst (λ (i : ℕ). Among i requestedOperations) (eqb-true op 5 e) k)
-        go false e true f = absurd (subst (λ (i : ℕ). Among i requestedOperations) (eqb-true op 6 f) k)
-        go false e false f = refl
+        isNot : (i : ℕ) → (Among i requestedOperations → ⊥) → eqb op i ≡ false
+        isNot i n = ne-eqb op i (λ e. n (subst (λ (j : ℕ). Among j requestedOperations) e k))
 
 drop-aside : (i : ℕ) (l : List Made) → NoPolicy l → NoPolicy (drop i l)
 drop-aside zero l h = h

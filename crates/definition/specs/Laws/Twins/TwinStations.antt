@@ -10,11 +10,11 @@ use lib.Dec.{leb, eqb}
 use lib.ListN.{length, getD, drop}
 use borrow.Author.Tests.{leb-true, leb-false}
 use Rattle.definition.specs.Chain.{Entry, entry, newest, replaced}
-use Rattle.definition.specs.Alarm.{Alarm, sameIdentity, isDue}
+use Rattle.definition.specs.Alarm.{Alarm, sameIdentity, isDue, isOver}
 use Rattle.definition.specs.Station.{Station, addHistory, oldestHistoryOf, freeOldestHistory, changeHistory}
 use Rattle.definition.specs.Answer.{Raised, Updated, Acknowledged, Suppressed}
 use Rattle.definition.specs.Value.{Action, acknowledging, suppressing}
-use Rattle.definition.specs.Steps.{makeRoom, extendHistory, historyAfter, intoHistory, updatedBy, newAlarm, clearedBy, actionAnswer, actedOn, expiredBy}
+use Rattle.definition.specs.Steps.{makeRoom, extendHistory, historyAfter, intoHistory, updatedBy, newAlarm, clearedBy, actionAnswer, actedOn, expiredBy, liftedBy}
 use Rattle.definition.specs.Laws.Steps.LegalMoves.{addHistory-legal, freeOldestHistory-legal, changeHistory-legal}
 use Rattle.definition.specs.Laws.Steps.Answers.{blankAnswer}
 use Rattle.definition.specs.Laws.Twins.Blank.{blank}
@@ -169,13 +169,15 @@ says-acted acknowledging a a′ h = ap Acknowledged h
 says-acted suppressing a a′ h = ap Suppressed h
 
 pub twin-lasts : Lasting twin
-unfolding updatedBy newAlarm clearedBy actedOn expiredBy
+unfolding updatedBy newAlarm clearedBy actedOn expiredBy liftedBy
 twin-lasts = record {
   keys = λ h. ap (λ (a : Alarm). a .key) (h .1);
   ids = λ h. ap (λ (a : Alarm). a .id) (h .1);
   due = λ t h. ap (isDue t) (h .1);
+  over = λ t h. ap (isOver t) (h .1);
   updates = λ {c = c} r (i, h). (i, ap (λ (a : Alarm). blank (updatedBy c a)) h);
-  acts = λ x t (i, h). (i, ap (λ (a : Alarm). blank (actedOn x t a)) h);
+  acts = λ d t (i, h). (i, ap (λ (a : Alarm). blank (actedOn d t a)) h);
+  lifts = λ t (i, h). (i, ap (λ (a : Alarm). blank (liftedBy t a)) h);
   news = λ i k r. refl;
   clears = λ t (i, h). ap (λ (a : Alarm). blank (clearedBy t a)) h;
   expires = λ t (i, h). ap (λ (a : Alarm). blank (expiredBy t a)) h;

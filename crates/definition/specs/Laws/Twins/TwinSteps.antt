@@ -10,7 +10,7 @@ use lib.ListN.{length, take, drop, getD}
 use borrow.Author.Tests.{leb-false}
 use Rattle.octets.specs.Bytes.{Bytes, same}
 use Rattle.octets.specs.BoolLaws.{either-on}
-use Rattle.definition.specs.Value.{RaiseValue, PolicyValue, CallValue, opOf, Action, acknowledging, suppressing}
+use Rattle.definition.specs.Value.{RaiseValue, PolicyValue, CallValue, opOf, Action, acknowledging, suppressing, Deed, untimed, until, deedAction, deedEnd}
 use Rattle.definition.specs.Chain.{Entry, entry, contents, those}
 use Rattle.definition.specs.Laws.Book.Contents.{map-map, those-map}
 use Rattle.definition.specs.Alarm.{Alarm, Event, hasId, hasSeverity, inScope, isCritical}
@@ -21,7 +21,7 @@ use Rattle.definition.specs.Steps.{eventStored, eventLost, attempt, even
 use Rattle.definition.specs.Reports.{activeList, historyList, rating, tally, counts, onHeadline, severityOf, headline, worst, worstImpact, summary, freeOne, takeAudit}
 use Rattle.definition.specs.Perform.{stepFor, inLength, asksRecord, inRoom, perform}
 use Rattle.definition.specs.Numbers.{callRefusals, soundRefusals, among, Among}
-use Rattle.definition.specs.Contracts.LegalFields.{Time, LegalEvent, LegalPolicy, LegalCall}
+use Rattle.definition.specs.Contracts.LegalFields.{Time, Maybe, LegalEvent, LegalPolicy, LegalCall}
 use Rattle.definition.specs.Laws.Steps.ChangedLegal.{event-legal}
 use Rattle.definition.specs.Laws.Steps.LegalMoves.{addAudit-legal, freeOldestAudit-legal, countSuccess-legal, countFailure-legal}
 use Rattle.definition.specs.Laws.Twins.Blank.{blank}
@@ -29,7 +29,7 @@ use Rattle.definition.specs.Twins.{AtEach}
 use Rattle.definition.specs.Laws.Steps.PairedChains.{length-each}
 use Rattle.definition.specs.Laws.Steps.SideBySide.{Match, meet, Related, Only, give-related, look-related, refuse-related, cond-related, cond-both, pre-related, known-related, bind-related, then-related, test-related}
 use Rattle.definition.specs.Laws.Steps.Alike.{BothLegal, On, Told, worded, go-on, search-like}
-use Rattle.definition.specs.Laws.Steps.AlikeSteps.{told, quiet, act-like, raise-like, clear-like, plain-like, expire-like, inRecord-like}
+use Rattle.definition.specs.Laws.Steps.AlikeSteps.{told, quiet, act-like, raise-like, clear-like, plain-like, expire-like, lift-like, inRecord-like}
 use Rattle.definition.specs.Laws.Twins.TwinStations.{TwinAt, TwinRest, twin, twin-lasts}
 
 -- ---- audit
@@ -102,30 +102,31 @@ deny-twin : {n : ℕ} {d d′ : List (Entry Alarm)} (v v′ : Event) (m : Bytes)
 unfolding deny
 deny-twin {n} {d} {d′} v v′ m e h = bind-related (attempt-twin n d d′ v v′ e h) (λ b b′. pre-related (λ s t p. p .1) (quiet twin-lasts refl refl))
 
-allow-twin : {n : ℕ} (x : Action) (t : ℕ) (v v′ : Event) (e e′ : Entry Alarm) → TwinAt e e′ → BothLegal 3 (e .content) (e′ .content) → Time t → v ≡ v′ → LegalEvent v →
-    Related (On twin n (e ∷ []) (e′ ∷ [])) (Told twin 0 n) (allow x t v e) (allow x t v′ e′)
+allow-twin : {n : ℕ} (d : Deed) (t : ℕ) (v v′ : Event) (e e′ : Entry Alarm) → TwinAt e e′ → BothLegal 3 (e .content) (e′ .content) → Maybe Time (deedEnd d) → Time t → v ≡ v′ → LegalEvent v →
+    Related (On twin n (e ∷ []) (e′ ∷ [])) (Told twin 0 n) (allow d t v e) (allow d t v′ e′)
 unfolding allow
-allow-twin {n} x t v v′ e e′ w g u q h = bind-related (attempt-twin n (e ∷ []) (e′ ∷ []) v v′ q h) (λ b b′.
-    known-related (λ s t p. p .0) (λ z. pre-related (λ s t p. p .1) (cond-both z (act-like twin-lasts x t u e e′ w g) (quiet twin-lasts refl refl))))
+allow-twin {n} d t v v′ e e′ w g z u q h = bind-related (attempt-twin n (e ∷ []) (e′ ∷ []) v v′ q h) (λ b b′.
+    known-related (λ s t p. p .0) (λ y. pre-related (λ s t p. p .1) (cond-both y (act-like twin-lasts d t z u e e′ w g) (quiet twin-lasts refl refl))))
 
 override-twin : (x : Action) (p : PolicyValue) (a a′ : Alarm) → blank a ≡ blank a′ → needsOverride x p a ≡ needsOverride x p a′
 unfolding needsOverride isCritical
 override-twin acknowledging p a a′ h = refl
 override-twin suppressing p a a′ h = ap (needsOverride suppressing p) h
 
-policyAt-twin : {n : ℕ} (x : Action) (p : PolicyValue) → LegalPolicy p → (e e′ : Entry Alarm) → TwinAt e e′ → BothLegal 3 (e .content) (e′ .content) →
-    Related (On twin n (e ∷ []) (e′ ∷ [])) (Told twin 0 n) (policyAt x p (some e)) (policyAt x p (some e′))
+policyAt-twin : {n : ℕ} (d : Deed) (p : PolicyValue) → LegalPolicy p → Maybe Time (deedEnd d) → (e e′ : Entry Alarm) → TwinAt e e′ → BothLegal 3 (e .content) (e′ .content) →
+    Related (On twin n (e ∷ []) (e′ ∷ [])) (Told twin 0 n) (policyAt d p (some e)) (policyAt d p (some e′))
 unfolding policyAt eventOf
-policyAt-twin x p h e e′ w g =
+policyAt-twin d p h z e e′ w g =
     let q = w .1 in
+    let x = deedAction d in
     cond-both (override-twin x p (e .content) (e′ .content) q) (deny-twin _ _ _ (ap (eventOf x 1 p) q) (event-legal x 1 p (e .content) (omega arith) h (g .0)))
     (cond-related (eqb (p .verdict .authorised) 0) (deny-twin _ _ _ (ap (eventOf x 1 p) q) (event-legal x 1 p (e .content) (omega arith) h (g .0)))
-    (allow-twin x _ _ _ e e′ w g (h .time) (ap (eventOf x 0 p) q) (event-legal x 0 p (e .content) (omega arith) h (g .0))))
+    (allow-twin d _ _ _ e e′ w g z (h .time) (ap (eventOf x 0 p) q) (event-legal x 0 p (e .content) (omega arith) h (g .0))))
 
-policy-twin : {n : ℕ} (x : Action) (p : PolicyValue) → LegalPolicy p → Related (Twin n) (Told twin 0 n) (policy x p) (policy x p)
+policy-twin : {n : ℕ} (d : Deed) (p : PolicyValue) → LegalPolicy p × Maybe Time (deedEnd d) → Related (Twin n) (Told twin 0 n) (policy d p) (policy d p)
 unfolding policy policyAt
-policy-twin x p h =
-    search-like twin-lasts _ _ (hasId (p .actor .id)) (λ e e′ q. ap (same (p .actor .id)) (twin-lasts .ids {e = e} {e′ = e′} q)) (λ s t q. q) (quiet twin-lasts refl refl) (policyAt-twin x p h)
+policy-twin d p (h, z) =
+    search-like twin-lasts _ _ (hasId (p .actor .id)) (λ e e′ q. ap (same (p .actor .id)) (twin-lasts .ids {e = e} {e′ = e′} q)) (λ s t q. q) (quiet twin-lasts refl refl) (policyAt-twin d p h z)
 
 -- ---- reports
 
@@ -212,14 +213,16 @@ step-twin (CallValue.raise c) h = raise-like twin-lasts {c = c} {w = c .text} {d
 step-twin (CallValue.clear c) h = clear-like twin-lasts c h
 step-twin (CallValue.plain acknowledging p) h = plain-like twin-lasts acknowledging p h
 step-twin (CallValue.plain suppressing p) h = plain-like twin-lasts suppressing p h
-step-twin (CallValue.policy acknowledging p) h = policy-twin acknowledging p h
-step-twin (CallValue.policy suppressing p) h = policy-twin suppressing p h
+step-twin (CallValue.policy (untimed acknowledging) p) h = policy-twin (untimed acknowledging) p h
+step-twin (CallValue.policy (untimed suppressing) p) h = policy-twin (untimed suppressing) p h
+step-twin (CallValue.policy (until t) p) h = policy-twin (until t) p h
 step-twin (CallValue.expire t) h = expire-like twin-lasts t h
 step-twin (CallValue.active v) h = activeList-twin v
 step-twin (CallValue.history t l) h = historyList-twin t l
 step-twin CallValue.counts h = counts-twin
 step-twin CallValue.summary h = summary-twin
 step-twin (CallValue.takeAudit i) h = takeAudit-twin i
+step-twin (CallValue.lift t) h = lift-like twin-lasts t h
 step-twin (CallValue.refused i) h = refuse-related (call-listed i h)
 
 pub perform-twin : {n : ℕ} {c c′ : CallValue} (k : ℕ) → TwinCalls c c′ → LegalCall c → LegalCall c′ → Related (Twin n) (Told twin (kindOf (opOf c)) n) (perform c k) (perform c′ k)
