@@ -196,9 +196,13 @@ historyFields = do
 
 -- ---- 13, M-105: "operation 6 with one more field, an end time, directly after the call's time"
 
+-- an end is later than the call's time
+abbrev pub isLater : ℕ → ℕ → Bool
+isLater end time = before time end
+
 -- 34: "an end not later than the call's time, after all field checks and before 30": all fields are read, and what they say is a refused call
 abbrev pub untilLater : ℕ → ℕ → PolicyValue → CallValue
-untilLater time end p = cond (before time end) (CallValue.policy (until end) p) (CallValue.refused 34)
+untilLater time end p = cond (isLater end time) (CallValue.policy (until end) p) (CallValue.refused 34)
 
 unfoldable pub untilFields : Reader CallValue
 untilFields = do

@@ -175,8 +175,8 @@ impl<'a> SuppressUntil<'a> {
 
     policy_setters! {}
 
-    /// A suppression with an end.
-    fn with_end(suppression: PolicyAction<'a>, end: Time) -> Self {
+    /// A suppression with an end: operation 13 in the place of 6, whichever action was named.
+    pub fn with_end(suppression: PolicyAction<'a>, end: Time) -> Self {
         let PolicyAction { time, id, principal, tenant, reason, scope, correlation, .. } = suppression;
         let PolicyAction { critical_allowed, authorised, denial, .. } = suppression;
         SuppressUntil { time, end, id, principal, tenant, reason, scope, correlation, critical_allowed, authorised, denial }

@@ -77,16 +77,7 @@ impl PolicyFields {
     }
 
     fn until(&self, time: Time, end: Time) -> SuppressUntil<'_> {
-        SuppressUntil {
-            tenant: self.tenant.as_deref(),
-            reason: &self.reason,
-            scope: (self.make_scope)(&self.scope_string),
-            correlation: self.correlation.as_deref(),
-            critical_allowed: self.critical_allowed,
-            authorised: self.authorised,
-            denial: &self.denial,
-            ..SuppressUntil::new(time, end, &self.id, &self.principal)
-        }
+        SuppressUntil::with_end(self.action(Action::Suppress, time), end)
     }
 }
 

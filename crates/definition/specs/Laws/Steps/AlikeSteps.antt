@@ -15,9 +15,9 @@ use Rattle.definition.specs.Value.{RaiseValue, ClearValue, PlainValue, A
 use Rattle.definition.specs.Key.{keyOf}
 use Rattle.definition.specs.Laws.Text.Key.{length-key}
 use Rattle.definition.specs.Chain.{Entry, entry}
-use Rattle.definition.specs.Alarm.{Alarm, hasKey, hasId, isDue, isOver}
+use Rattle.definition.specs.Alarm.{Alarm, hasKey, hasId}
 use Rattle.definition.specs.Station.{Station, Step, give, forEach}
-use Rattle.definition.specs.Answer.{Answer, Updated, ActiveLimitExceeded, Expired, Lifted}
+use Rattle.definition.specs.Answer.{Answer, Updated, ActiveLimitExceeded}
 use Rattle.definition.specs.Steps.{revise, change, retire, updatedBy, newAlarm, store, storeNew, raiseAt, raise, clearAt, clear, actionAnswer, actedOn, act, plainAt, plain, onEntry, round, retireDue, expire, liftOver, lift}
 use Rattle.definition.specs.Perform.{inRecord}
 use Rattle.definition.specs.Contracts.LegalFields.{Time, Maybe, LegalRaise}
@@ -170,7 +170,7 @@ module _ {k : Likeness} (l : Lasting k) where
       round-like {w = 1} {m = retireDue t} (record {
         there = λ {e = e} {s = s} p. omega (arith, p .size, length-without (e .index) (s .active) (picked-left (p .picked)));
         goes = λ {n = n} {e} {e′} q g. pre-related (λ s r p. resized (omega arith) p) (retire-like {n = n} {e = e} {e′ = e′} (l .expires t q) (expired-legal t (e .content) h (g .0), expired-legal t (e′ .content) h (g .1)));
-      }) (isDue t) Expired (λ e e′ q. l .due t q) (λ c. (refl, refl, omega arith))
+      }) _ _ (λ e e′ q. l .due t q) (λ c. (refl, refl, omega arith))
 
   pub lift-like : {n : ℕ} (t : ℕ) → Time t → Related (On k n [] []) (Told k 0 n) (lift t) (lift t)
   unfolding lift
@@ -178,7 +178,7 @@ module _ {k : Likeness} (l : Lasting k) where
       round-like {w = 0} {m = liftOver t} (record {
         there = λ p. omega arith;
         goes = λ {n = n} {e} {e′} q g. pre-related (λ s r p. resized (omega arith) p) (revise-like {n = n} {e = e} {e′ = e′} (l .lifts t q) (lifted-legal t (e .content) h (g .0), lifted-legal t (e′ .content) h (g .1)));
-      }) (isOver t) Lifted (λ e e′ q. l .over t q) (λ c. (refl, refl, omega arith))
+      }) _ _ (λ e e′ q. l .over t q) (λ c. (refl, refl, omega arith))
 
   -- ---- in a record's room
 

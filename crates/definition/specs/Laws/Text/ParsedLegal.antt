@@ -11,9 +11,8 @@ use Rattle.octets.specs.Bytes.{Bytes, Octets}
 use Rattle.octets.specs.NumberLaws.{octets-tail}
 use Rattle.definition.specs.Limits.{shortLimit}
 use Rattle.definition.specs.Value.{PolicyValue, CallValue, opOf, acknowledging, suppressing, untimed, until}
-use Rattle.definition.specs.Alarm.{before}
 use Rattle.definition.specs.Reader.{Out, got, Reader}
-use Rattle.definition.specs.Parse.{historyFields, untilFields, fieldsOf, whole, parseCall}
+use Rattle.definition.specs.Parse.{historyFields, isLater, untilFields, fieldsOf, whole, parseCall}
 use Rattle.definition.specs.Contracts.LegalFields.{Time, LegalPolicy, LegalCall}
 use Rattle.definition.specs.Laws.Text.ParsedFields.{Given, gave, refuses, Reads, give-reads, refuse-reads, if-reads, bind-reads, into-reads, number-reads, option-reads, raise-reads, clear-reads, plain-reads, behind-reads, policy-reads, severity-reads}
 
@@ -38,7 +37,7 @@ module _ (op : ℕ) where
   -- an end that is not later is refused
   until-reads : op ≡ 13 → Reads LegalOf untilFields
   unfolding untilFields
-  until-reads e = bind-reads _ _ (number-reads 8) (λ t pt. bind-reads _ _ (number-reads 8) (λ z pz. bind-reads _ _ (behind-reads t pt) (λ p pp. give-reads LegalOf _ (go t z p pz pp (before t z)))))
+  until-reads e = bind-reads _ _ (number-reads 8) (λ t pt. bind-reads _ _ (number-reads 8) (λ z pz. bind-reads _ _ (behind-reads t pt) (λ p pp. give-reads LegalOf _ (go t z p pz pp (isLater z t)))))
     where
       go : (t z : ℕ) (p : PolicyValue) → Time z → LegalPolicy p → (b : Bool) → LegalOf (cond b (CallValue.policy (until z) p) (CallValue.refused 34))
       go t z p pz pp true = ((pp, pz), called (sym e))
