@@ -64,7 +64,7 @@ pub record EndsRemoved : Type 0 where
   pub cleared : marksBehind (once ∷ timed 1 ∷ clear 0 "a" ∷ []) ≡ (answered 1 ∷ answered 6 ∷ answered 3 ∷ [], ([], at 0 0 ∷ until 0 1 ∷ at 4 0 ∷ []))
   pub expired : marksBehind (once ∷ timed 2 ∷ expire 1 ∷ []) ≡ (answered 1 ∷ answered 6 ∷ answered 11 ∷ [], ([], at 0 0 ∷ until 0 2 ∷ at 5 1 ∷ []))
   pub plainly : marksBehind (once ∷ timed 1 ∷ suppress "a" 1 ∷ []) ≡ (answered 1 ∷ answered 6 ∷ answered 6 ∷ [], (at 3 0 ∷ [], at 0 0 ∷ at 3 0 ∷ []))
-  -- an untimed one by policy finds the audit chain full, and a timed one behind a plain one does not
+  -- an untimed one by policy stores none: behind a timed one the audit chain would be full. A timed one behind a plain one has its end
   pub untimed : marksBehind (once ∷ suppressByPolicy 0 "a" 1 ∷ []) ≡ (answered 1 ∷ answered 6 ∷ [], (at 3 0 ∷ [], at 0 0 ∷ at 3 0 ∷ []))
   pub anew : marksBehind (once ∷ suppress "a" 1 ∷ timed 1 ∷ []) ≡ (answered 1 ∷ answered 6 ∷ answered 6 ∷ [], (until 0 1 ∷ [], at 0 0 ∷ until 0 1 ∷ []))
 
