@@ -14,7 +14,7 @@ use fields::{Cursor, StringKind};
 use model::{OptSpan, Record, Span};
 
 // An acknowledgement or a suppression without a policy. The flag is 0 or 1.
-#[derive(Drop)]
+#[derive(Clone, Copy)]
 pub struct Plain {
     pub time: u64,
     pub id: Span,
@@ -22,7 +22,7 @@ pub struct Plain {
 }
 
 // What is asked for: one alarm by its id, the alarms of a tenant, or all.
-#[derive(Drop)]
+#[derive(Clone, Copy)]
 pub enum Scope {
     Alarm(Span),
     Tenant(Span),
@@ -30,7 +30,7 @@ pub enum Scope {
 }
 
 // Who asks, when, and for which alarm.
-#[derive(Drop)]
+#[derive(Clone, Copy)]
 pub struct Actor {
     pub time: u64,
     pub id: Span,
@@ -39,7 +39,7 @@ pub struct Actor {
 }
 
 // Why, and for what.
-#[derive(Drop)]
+#[derive(Clone, Copy)]
 pub struct Request {
     pub reason: Span,
     pub scope: Scope,
@@ -47,14 +47,14 @@ pub struct Request {
 }
 
 // What the authoriser answered. The flags are 0 or 1.
-#[derive(Drop)]
+#[derive(Clone, Copy)]
 pub struct Verdict {
     pub critical_allowed: u8,
     pub authorised: u8,
     pub denial: Span,
 }
 
-#[derive(Drop)]
+#[derive(Clone, Copy)]
 pub struct Policy {
     pub actor: Actor,
     pub request: Request,
@@ -62,37 +62,37 @@ pub struct Policy {
 }
 
 // What a reader answers: a value, and where the reading stands after it.
-#[derive(Drop)]
+#[derive(Clone, Copy)]
 pub struct PlainRead {
     pub plain: Plain,
     pub next: Cursor,
 }
 
-#[derive(Drop)]
+#[derive(Clone, Copy)]
 struct ScopeRead {
     scope: Scope,
     next: Cursor,
 }
 
-#[derive(Drop)]
+#[derive(Clone, Copy)]
 struct ActorRead {
     actor: Actor,
     next: Cursor,
 }
 
-#[derive(Drop)]
+#[derive(Clone, Copy)]
 struct RequestRead {
     request: Request,
     next: Cursor,
 }
 
-#[derive(Drop)]
+#[derive(Clone, Copy)]
 struct VerdictRead {
     verdict: Verdict,
     next: Cursor,
 }
 
-#[derive(Drop)]
+#[derive(Clone, Copy)]
 pub struct PolicyRead {
     pub policy: Policy,
     pub next: Cursor,

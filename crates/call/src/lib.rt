@@ -23,7 +23,7 @@ use model::{Action, Deed, OptSpan, Record};
 use raise_fields::{Clear, ClearRead, Raise, RaiseRead};
 
 // A call, or the number of its first fault.
-#[derive(Drop)]
+#[derive(Clone, Copy)]
 pub enum Parsed {
     Raise(Raise),
     Clear(Clear),
@@ -40,7 +40,7 @@ pub enum Parsed {
 }
 
 // What a reader answers: a call, and where the reading stands after it.
-#[derive(Drop)]
+#[derive(Clone, Copy)]
 struct CallRead {
     parsed: Parsed,
     next: Cursor,

@@ -16,7 +16,7 @@ mod white;
 pub use names::put_name;
 
 // A cause: a name by its place, or the part of the string that is the trimmed name after `other:`.
-#[derive(Drop)]
+#[derive(Clone, Copy)]
 pub enum Cause {
     Name(usize),
     Other { at: usize, len: usize },

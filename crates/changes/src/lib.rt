@@ -135,7 +135,7 @@ fn set_text(p: &mut [u8], call: &[u8], s: Span)
 }
 
 // What a raise brings to an alarm that is active.
-#[derive(Drop)]
+#[derive(Clone, Copy)]
 pub struct News {
     pub time: u64,
     pub severity: u8,

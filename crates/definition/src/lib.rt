@@ -7,3 +7,5 @@
 //
 // specs/Lib.antt lists the files in document 01's order; definitions quote the sentences that they state. specs/Contracts has the words that
 // contracts inside the code need besides, and specs/Laws what follows from the definitions.
+
+#![tactic(auto)]

@@ -20,7 +20,7 @@ use model::{OptTime, Record};
 use register::{ACTIVE, Ends};
 
 // What a sweep does to the alarms that it takes.
-#[derive(Drop)]
+#[derive(Clone, Copy)]
 enum Round {
     Expire,
     Lift,
@@ -124,7 +124,7 @@ fn kept_by(round: Round, previous: u32, at: u32) -> u32
 
 // Where a sweep stands: the chains' ends, of which history's is true at each turn, the last active record that was passed and is still there, and
 // how many were taken.
-#[derive(Drop)]
+#[derive(Clone, Copy)]
 struct Stand {
     ends: Ends,
     kept: u32,

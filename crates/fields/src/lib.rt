@@ -26,7 +26,7 @@ mod part;
 pub use part::{read_cause, read_choice, read_number, read_option, read_raise_text, read_text};
 
 // Where the reading of a slice stands: at a place, or at its first fault, by its number.
-#[derive(Drop)]
+#[derive(Clone, Copy)]
 pub enum Cursor {
     At(usize),
     Fault(u8),
@@ -34,38 +34,38 @@ pub enum Cursor {
 
 // What a reader answers: a value, and where the reading stands after it; the value means something where that is a place. Places count
 // from the start of the slice that the reader received.
-#[derive(Drop)]
+#[derive(Clone, Copy)]
 pub struct NumRead {
     pub value: u64,
     pub next: Cursor,
 }
 
-#[derive(Drop)]
+#[derive(Clone, Copy)]
 pub struct ByteRead {
     pub value: u8,
     pub next: Cursor,
 }
 
-#[derive(Drop)]
+#[derive(Clone, Copy)]
 pub struct SpanRead {
     pub span: Span,
     pub next: Cursor,
 }
 
-#[derive(Drop)]
+#[derive(Clone, Copy)]
 pub struct OptSpanRead {
     pub span: OptSpan,
     pub next: Cursor,
 }
 
-#[derive(Drop)]
+#[derive(Clone, Copy)]
 pub struct CauseRead {
     pub cause: CauseSpan,
     pub next: Cursor,
 }
 
 // Which strings a field takes: those in UTF-8, or any bytes.
-#[derive(Drop)]
+#[derive(Clone, Copy)]
 pub enum StringKind {
     Text,
     Blob,

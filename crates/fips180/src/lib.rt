@@ -4,3 +4,5 @@
 // it; specs/Vectors.antt computes its published digests. The key of an alarm is defined by these
 // (definition, specs/Key.antt), and crate `sha256` is the code that is proved equal: so the definition depends on no code.
 // PaddingLaws and StepLaws serve that proof.
+
+#![tactic(auto)]

@@ -15,19 +15,19 @@ use fields::{Cursor, StringKind};
 use model::{AffectedObject, KeyFields, Places, Record, Span};
 
 // What a reader answers: a value, and where the reading stands after it.
-#[derive(Drop)]
+#[derive(Clone, Copy)]
 struct ObjectRead {
     object: AffectedObject,
     next: Cursor,
 }
 
-#[derive(Drop)]
+#[derive(Clone, Copy)]
 struct PlacesRead {
     places: Places,
     next: Cursor,
 }
 
-#[derive(Drop)]
+#[derive(Clone, Copy)]
 pub struct KeyRead {
     pub key: KeyFields,
     pub next: Cursor,

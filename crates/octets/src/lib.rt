@@ -6,6 +6,8 @@
 // specs/ are laws of these words; look there before proving something of lists.
 //
 // A function that writes takes the slice and a place, and promises `splice`: just these bytes are replaced.
+#![tactic(auto)]
+
 ghost use Rattle.std.specs.Prelude.{◌≡◌, [], ◌∷◌, ◌+◌, ◌^◌, ◌≤◌, ◌<◌, length};
 ghost use Rattle.octets.specs.Bytes.{same, begins, zeros, blank, digits, value, number_at, splice};
 

@@ -14,7 +14,7 @@ ghost use Rattle.panel.specs.Meaning.{call_of, flag_of, Shows};
 use register::ACTIVE;
 
 // A call on the panel: a look, or a write of a value to the byte at a place.
-#[derive(Drop)]
+#[derive(Clone, Copy)]
 pub enum PanelCall {
     Look,
     Write(u32, u8),

@@ -15,7 +15,7 @@ use fields::{Cursor, StringKind};
 use model::{KeyFields, OptSpan, Record, Span};
 
 // How a raise begins.
-#[derive(Drop)]
+#[derive(Clone, Copy)]
 pub struct RaiseHead {
     pub time: u64,
     pub id: Span,
@@ -23,7 +23,7 @@ pub struct RaiseHead {
     pub severity: u8,
 }
 
-#[derive(Drop)]
+#[derive(Clone, Copy)]
 pub struct Raise {
     pub head: RaiseHead,
     pub key: KeyFields,
@@ -31,7 +31,7 @@ pub struct Raise {
     pub details: OptSpan,
 }
 
-#[derive(Drop)]
+#[derive(Clone, Copy)]
 pub struct Clear {
     pub time: u64,
     pub alarm_type: Span,
@@ -39,19 +39,19 @@ pub struct Clear {
 }
 
 // What a reader answers: a value, and where the reading stands after it.
-#[derive(Drop)]
+#[derive(Clone, Copy)]
 struct HeadRead {
     head: RaiseHead,
     next: Cursor,
 }
 
-#[derive(Drop)]
+#[derive(Clone, Copy)]
 pub struct RaiseRead {
     pub raise: Raise,
     pub next: Cursor,
 }
 
-#[derive(Drop)]
+#[derive(Clone, Copy)]
 pub struct ClearRead {
     pub clear: Clear,
     pub next: Cursor,

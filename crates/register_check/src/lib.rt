@@ -24,13 +24,13 @@ const RULER: usize = 2 * Record::DETAILS;
 // A byte's highest bit.
 const HIGH: u8 = 128;
 
-#[derive(Drop)]
+#[derive(Clone, Copy)]
 pub enum Soundness {
     Sound(Ends),
     Unsound,
 }
 
-#[derive(Drop)]
+#[derive(Clone, Copy)]
 enum Kind {
     Active,
     History,
@@ -39,14 +39,14 @@ enum Kind {
 }
 
 // How many records a register's header has room for, if the header is as it should be.
-#[derive(Drop)]
+#[derive(Clone, Copy)]
 enum HeaderVerdict {
     Capacity(u32),
     Wrong,
 }
 
 // How a walk by links went: it ended after the record named (0 for none), or a link or a payload was wrong.
-#[derive(Drop)]
+#[derive(Clone, Copy)]
 enum Walked {
     End(u32),
     Broken,

@@ -4,12 +4,14 @@
 // the second. A string is well formed if it is a run of characters, and each is a code point (`code_points` in
 // definition, specs/Utf8.antt). Most strings are ASCII, and so are most bytes of the others: a string of ASCII is seen
 // at once by `check`, and between other letters ASCII is passed eight bytes at a time.
+#![tactic(auto)]
+
 ghost use Rattle.std.specs.Prelude.{◌≡◌, ◌≤◌};
 ghost use Rattle.definition.specs.Utf8.{◌–◌, tail, character as the_character, code_points, is_run, utf8, at_most};
 ghost use Rattle.utf8.specs.Meaning.{plain, starts_plain, all_inside, row_width, ahead as the_ahead, lead_in, leads_in, counted};
 
 // What the check answers: well formed, with the number of code points; or not.
-#[derive(Drop)]
+#[derive(Clone, Copy)]
 pub enum Form {
     WellFormed(usize),
     IllFormed,

@@ -38,10 +38,12 @@ module _ {A : Type 0} where
     passes : {e e' : Entry A} {d d' c c' : List (Entry A)} → Picked d d' c c' → Picked d d' (e ∷ c) (e' ∷ c')
 
   pub picked_left : {e e' : Entry A} {d d' c c' : List (Entry A)} → Picked (e ∷ d) (e' ∷ d') c c' → 1 ≤ times e.index c
+  picked_left {e} {d = d} {c = []} p = elim p [ ]
   picked_left {e} {c = x ∷ c} (picks p) = on_chain e c
   picked_left {e} {c = x ∷ c} (passes p) = omega (arith, picked_left p, times_cons x c e.index)
 
   pub picked_right : {e e' : Entry A} {d d' c c' : List (Entry A)} → Picked (e ∷ d) (e' ∷ d') c c' → 1 ≤ times e'.index c'
+  picked_right {e' = e} {d = d} {c = c} {c' = []} p = elim p [ ]
   picked_right {e' = e} {c' = x ∷ c} (picks p) = on_chain e c
   picked_right {e' = e} {c' = x ∷ c} (passes p) = omega (arith, picked_right p, times_cons x c e.index)
 

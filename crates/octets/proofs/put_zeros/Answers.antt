@@ -1,0 +1,10 @@
+-- `put_zeros`: the part that was lent came back with zeros.
+use Rattle.octets.specs.Bytes.{zeros}
+use Rattle.octets.specs.NumberLaws.{length_zeros}
+use Rattle.octets.specs.SpliceLaws.{back_made}
+use borrow.Author.Rules.{rules}
+use Rattle.octets.proofs.put_zeros.Goals as goal
+
+pub returns : goal.returns
+returns c =
+    back_made c.args.s.now c.args.at c.args.n _ zeros length_zeros c.requires c.clear.ensures

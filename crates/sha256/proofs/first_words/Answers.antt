@@ -1,0 +1,21 @@
+-- `sha256::first_words` meets its contract. The loop's invariant: the first i words are those of the block.
+use Rattle.std.proofs.Common.{◌≡◌, ◌-◌, ◌≤◌, length, take, refl, arith, length-set, rules}
+use Rattle.fips180.specs.Sha256.{padded, words_of}
+use Rattle.fips180.specs.StepLaws.{words_more}
+use Rattle.sha256.proofs.first_words.Goals as goal
+
+pub loop-i-init : goal.loop-i-init
+unfolding words_of
+loop-i-init c = (omega arith, refl, refl)
+
+pub loop-i-preserved : goal.loop-i-preserved
+loop-i-preserved c = (
+  omega arith,
+  rw length-set c.loop-i.invariant.1,
+  words_more _ _ _ _ (omega arith) c.padded_word.ensures c.loop-i.invariant.2,
+)
+
+pub returns : goal.returns
+returns c =
+    let e : c.loop-i.i ≡ 16 = omega arith in
+    rw e at c.loop-i.invariant.2

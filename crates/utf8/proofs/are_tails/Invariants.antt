@@ -1,0 +1,16 @@
+-- At each place the bytes passed are tails: the bytes left decide.
+use mathlib.Core.Path.{◌≡◌, ◌∙◌, sym}
+use Prim.Native.Nat.{◌≤◌, ◌-◌}
+use native.Mathlib.Omega.{arith}
+use borrow.Author.Rules.{rules}
+use lib.ListN.{length, drop}
+use Rattle.definition.specs.Utf8.{tail}
+use Rattle.utf8.specs.Meaning.{all_inside}
+use Rattle.utf8.proofs.Rows.{inside_low, inside_high, inside_range, inside_next, inside_not, inside_end}
+use Rattle.utf8.proofs.are_tails.Given as goal
+
+abbrev pub invariant-loop-i : goal.invariant-loop-i
+invariant-loop-i l = (l.i ≤ length l.s) × (all_inside tail (drop l.i l.s) ≡ all_inside tail l.s)
+
+abbrev pub decreases-loop-i : goal.decreases-loop-i
+decreases-loop-i l = length l.s - l.i
