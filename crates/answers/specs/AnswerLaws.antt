@@ -9,7 +9,7 @@ use Rattle.definition.specs.Alarm.{Alarm, Event}
 use Rattle.definition.specs.Record.{alarm_bytes}
 use Rattle.definition.specs.Station.{Step}
 use Rattle.definition.specs.Answer.{Answer, Head, head, head_of, head_bytes, alarm_record, event_record, event_records, body, answer_bytes}
-use Rattle.definition.specs.Laws.Steps.Answers.{length_head}
+use Rattle.definition.proofs.Laws.Steps.Answers.{length_head}
 use Rattle.definition.specs.Clauses.Does.{Does, Answers}
 
 -- ---- which answer a head and a body are

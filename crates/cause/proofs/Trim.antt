@@ -9,7 +9,7 @@ use lib.Seq.{drop-cons, drop-drop, take-add, take-suc, take-take, drop-append-le
 use Rattle.octets.specs.Bytes.{Bytes}
 use Rattle.octets.specs.PartLaws.{part_rest}
 use Rattle.definition.specs.White.{space, start_from, end_from}
-use Rattle.definition.specs.Laws.Text.White.{space_le, start_space, keep_all, keep_nil, keep_append, end_space, end_plain}
+use Rattle.definition.proofs.Laws.Text.White.{space_le, start_space, keep_all, keep_nil, keep_append, end_space, end_plain}
 
 -- s up to `end`, and what stays of the white space from there to i and of the rest
 abbrev pub up_to : Bytes → ℕ → ℕ → Bytes

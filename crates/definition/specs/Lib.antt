@@ -38,5 +38,3 @@ pub mod Reach
 pub mod Lamps
 -- the words of contracts inside the code
 pub mod Clauses
--- what follows from it
-pub mod Laws

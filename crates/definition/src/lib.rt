@@ -5,7 +5,7 @@
 // events. Steps are plain functions from a station to a station or a refusal. `step_of` in specs/Lists.antt is a call on any bytes, `open_of` in
 // specs/Opening.antt is opening, and specs/Claim.antt is demand 3: all else is named by these.
 //
-// specs/Lib.antt lists the files in document 01's order; definitions quote the sentences that they state. specs/Contracts has the words that
-// contracts inside the code need besides, and specs/Laws what follows from the definitions.
+// specs/Lib.antt lists the files in document 01's order; definitions quote the sentences that they state. specs/Clauses has the words that
+// contracts inside the code need besides, and proofs/Laws what follows from the definitions.
 
 #![tactic(auto)]

@@ -9,7 +9,7 @@ use lib.Seq.{take-suc, length-take-le}
 use Rattle.octets.specs.Bytes.{Bytes, splice}
 use Rattle.octets.specs.SpliceLaws.{set_splice, splice_two}
 use Rattle.definition.specs.Key.{hex_digit, hex}
-use Rattle.definition.specs.Laws.Text.Key.{length_hex, hex_append}
+use Rattle.definition.proofs.Laws.Text.Key.{length_hex, hex_append}
 
 two_sets : (b : Bytes) (k x y : ℕ) → k + 1 < length b → set (set b k x) (k + 1) y ≡ splice b k (x ∷ y ∷ [])
 two_sets b k x y h =

@@ -10,7 +10,7 @@ use Rattle.octets.specs.SpliceLaws.{length_splice}
 use Rattle.octets.specs.Put.{Put}
 use Rattle.definition.specs.Limits.{short_limit, cause_limit, region_limit}
 use Rattle.definition.specs.Key.{string, optional, strings, decimal, parts, fed_object, fed_places, fed}
-use Rattle.definition.specs.Laws.Text.Key.{length_string, length_decimal}
+use Rattle.definition.proofs.Laws.Text.Key.{length_string, length_decimal}
 use Rattle.model.specs.declared.AffectedObject.{AffectedObject}
 use Rattle.model.specs.declared.AffectedObject.TheVariants as O
 use Rattle.model.specs.declared.Span.{Span}

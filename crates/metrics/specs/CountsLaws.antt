@@ -4,12 +4,12 @@ use Rattle.std.proofs.Math.Path.{sym, ap}
 use Rattle.std.proofs.Common.{◌∙◌, arith}
 use Rattle.octets.specs.Bytes.{Bytes}
 use Rattle.octets.specs.Put.{Put}
-use Rattle.definition.specs.Laws.Book.Contents.{length_map}
+use Rattle.definition.proofs.Laws.Book.Contents.{length_map}
 use Rattle.definition.specs.Answer.{Answer, Counts, head_of, head_bytes}
 use Rattle.definition.specs.Reports.{count_of, tally, counts}
 use Rattle.definition.specs.Perform.{in_length}
 use Rattle.definition.specs.Sound.{station, sound}
-use Rattle.definition.specs.Laws.Steps.Answers.{length_answer}
+use Rattle.definition.proofs.Laws.Steps.Answers.{length_answer}
 use Rattle.definition.specs.Clauses.Does.{Does, Answers, Refuses}
 use Rattle.history.specs.DoesLaws.{does_look}
 use Rattle.answers.specs.AnswerLaws.{list_head, put_list}

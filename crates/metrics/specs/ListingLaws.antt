@@ -10,8 +10,8 @@ use Rattle.octets.specs.Bytes.{Bytes, at32, be32, value}
 use Rattle.octets.specs.NumberLaws.{length_be32}
 use Rattle.octets.specs.Put.{Put}
 use Rattle.definition.specs.Key.{string}
-use Rattle.definition.specs.Laws.Text.Key.{length_string}
-use Rattle.definition.specs.Laws.Book.Contents.{length_map, map_append}
+use Rattle.definition.proofs.Laws.Text.Key.{length_string}
+use Rattle.definition.proofs.Laws.Book.Contents.{length_map, map_append}
 use Rattle.definition.specs.Slot.{cut}
 use Rattle.definition.specs.Record.{read_alarm}
 use Rattle.definition.specs.Answer.{Count, count_entries}

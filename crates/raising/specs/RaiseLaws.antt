@@ -11,7 +11,7 @@ use Rattle.definition.specs.Value.{RaiseValue}
 use Rattle.definition.specs.Chain.{Entry, entry, present, first}
 use Rattle.definition.specs.Alarm.{Alarm, has_key, has_id}
 use Rattle.definition.specs.Clauses.LegalFields.{LegalRaise}
-use Rattle.definition.specs.Laws.Steps.ChangedLegal.{updated_legal, new_legal}
+use Rattle.definition.proofs.Laws.Steps.ChangedLegal.{updated_legal, new_legal}
 use Rattle.definition.specs.Record.{last_active, alarm_bytes, read_alarm}
 use Rattle.definition.specs.Book.{record_of}
 use Rattle.definition.specs.Station.{◌>>=◌, refuse}

@@ -4,9 +4,9 @@ use Prim.Native.Nat.{ℕ, ◌<◌}
 use lib.ListN.{length, get_or, set}
 use Rattle.octets.specs.Bytes.{Bytes, splice}
 use Rattle.definition.specs.Alarm.{Alarm}
-use Rattle.definition.specs.Laws.Record.Join.{offset}
-use Rattle.definition.specs.Laws.Record.Payloads.{alarm_widths, alarm_pieces}
-use Rattle.definition.specs.Laws.Record.ChangedSlot.{slot_law}
+use Rattle.definition.proofs.Laws.Record.Join.{offset}
+use Rattle.definition.proofs.Laws.Record.Payloads.{alarm_widths, alarm_pieces}
+use Rattle.definition.proofs.Laws.Record.ChangedSlot.{slot_law}
 use Rattle.record.specs.Change.{Becomes}
 
 -- slot k; the last argument is `λ a. refl` for each field

@@ -12,12 +12,12 @@ use Rattle.definition.specs.Slot.{cut}
 use Rattle.definition.specs.Record.{read_alarm}
 use Rattle.definition.specs.Book.{Record, record_of, read_book}
 use Rattle.definition.specs.Sound.{station_of, station, sound}
-use Rattle.definition.specs.Laws.Book.Contents.{on_some}
-use Rattle.definition.specs.Laws.Book.LegalChange.{fair}
-use Rattle.definition.specs.Laws.Book.ChangedChain.{total_on}
-use Rattle.definition.specs.Laws.Book.Occurrences.{times_cons, times_hit, times_miss}
+use Rattle.definition.proofs.Laws.Book.Contents.{on_some}
+use Rattle.definition.proofs.Laws.Book.LegalChange.{fair}
+use Rattle.definition.proofs.Laws.Book.ChangedChain.{total_on}
+use Rattle.definition.proofs.Laws.Book.Occurrences.{times_cons, times_hit, times_miss}
 use Rattle.definition.specs.Clauses.Moves.{prev_of, CanRelease}
-use Rattle.definition.specs.Laws.Steps.SoundStation.{sound_holds}
+use Rattle.definition.proofs.Laws.Steps.SoundStation.{sound_holds}
 use Rattle.register.specs.declared.Found.{Found}
 use Rattle.register.specs.declared.Found.TheVariants.{At, Nowhere}
 use Rattle.register.specs.Search.{Used, alarm_at, Match, behind, first_match, meaning, Finds}

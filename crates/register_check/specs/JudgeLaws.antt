@@ -7,15 +7,15 @@ use Rattle.octets.specs.BlankLaws.{blank→zeros, blank_zeros}
 use Rattle.octets.specs.PartLaws.{part_length}
 use Rattle.octets.specs.BoolLaws.{both, both_left, both_right, holds, fails, true_holds}
 use Rattle.definition.specs.Book.{capacity, is_limit, every, sound_book, read_book}
-use Rattle.definition.specs.Laws.Book.CheckSound.{chain_read, check_sound}
-use Rattle.definition.specs.Laws.Book.CheckComplete.{sound_checked}
-use Rattle.definition.specs.Laws.Book.BookTests.{limits_to, zeroed_to, zeroed_from, sound_to, sound_from_lem}
-use Rattle.definition.specs.Laws.Book.CheckParts.{chained_decides}
+use Rattle.definition.proofs.Laws.Book.CheckSound.{chain_read, check_sound}
+use Rattle.definition.proofs.Laws.Book.CheckComplete.{sound_checked}
+use Rattle.definition.proofs.Laws.Book.BookTests.{limits_to, zeroed_to, zeroed_from, sound_to, sound_from_lem}
+use Rattle.definition.proofs.Laws.Book.CheckParts.{chained_decides}
 use Rattle.definition.specs.Sound.{active_sound, history_sound, audit_sound, sound_records, sound}
 use Rattle.definition.specs.Clauses.Check.{Leads, Chained, PassesCheck, Decides, Apart}
 use Rattle.definition.specs.Clauses.LegalBook.{chain, last_of, Limit, SoundBook}
 use Rattle.register_check.specs.Meaning.{Chain, Headed, Heads, passes, number}
-use Rattle.definition.specs.Laws.Steps.SoundChains.{active_last, history_last, audit_last}
+use Rattle.definition.proofs.Laws.Steps.SoundChains.{active_last, history_last, audit_last}
 use Rattle.register.specs.Meaning.{Standing}
 use Rattle.register_check.specs.declared.Kind.{Kind}
 use Rattle.register_check.specs.declared.Kind.TheVariants.{Active, History, Audit, Free}

@@ -6,7 +6,7 @@ use Prim.Native.Nat.{ℕ, suc, ◌+◌, ◌-◌, ◌*◌, ◌≤◌, ◌<◌}
 use native.Mathlib.Omega.{arith}
 use Rattle.octets.specs.Bytes.{Bytes, same, zeros, blank, at32}
 use Rattle.definition.specs.Book.{Record, payload_width, record_of, walk, every}
-use Rattle.definition.specs.Laws.Book.LinkLoops.{Went, went_start, went_on, went_end}
+use Rattle.definition.proofs.Laws.Book.LinkLoops.{Went, went_start, went_on, went_end}
 use Rattle.definition.specs.Clauses.LegalBook.{last_of}
 use Rattle.definition.specs.Clauses.Check.{Leads}
 use Rattle.register_check.specs.Meaning.{holds}

@@ -12,7 +12,7 @@ use Rattle.definition.specs.Perform.{in_length}
 use Rattle.definition.specs.Sound.{station}
 use Rattle.definition.specs.Lists.{reply_of}
 use Rattle.definition.specs.Claim.{Gives}
-use Rattle.definition.specs.Laws.Steps.Replies.{answers_give, refuses_give}
+use Rattle.definition.proofs.Laws.Steps.Replies.{answers_give, refuses_give}
 use Rattle.definition.specs.Clauses.Does.{Does, Answers, Refuses}
 use Rattle.reply.specs.declared.Reply.{Reply}
 use Rattle.reply.specs.declared.Reply.TheVariants.{Answered, Refused}

@@ -12,7 +12,7 @@ use Rattle.definition.specs.Alarm.{Alarm, has_id}
 use Rattle.definition.specs.Record.{last_active, alarm_bytes, read_alarm}
 use Rattle.definition.specs.Book.{record_of}
 use Rattle.definition.specs.Clauses.LegalFields.{Time, Maybe}
-use Rattle.definition.specs.Laws.Steps.ChangedLegal.{acted_legal}
+use Rattle.definition.proofs.Laws.Steps.ChangedLegal.{acted_legal}
 use Rattle.definition.specs.Station.{Step}
 use Rattle.definition.specs.Value.{Action, acknowledging, suppressing, Deed, untimed, deed_action, deed_end}
 use Rattle.definition.specs.Steps.{action_answer, not_authorized, acted_on, act, plain_at, plain, change}

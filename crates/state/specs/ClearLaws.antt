@@ -14,7 +14,7 @@ use Rattle.definition.specs.Record.{last_active, last_state, alarm_bytes, read_a
 use Rattle.definition.specs.Book.{record_of}
 use Rattle.definition.specs.Limits.{short_limit}
 use Rattle.definition.specs.Clauses.LegalFields.{Time}
-use Rattle.definition.specs.Laws.Steps.ChangedLegal.{cleared_legal}
+use Rattle.definition.proofs.Laws.Steps.ChangedLegal.{cleared_legal}
 use Rattle.definition.specs.Steps.{cleared_by, clear_at, retire}
 use Rattle.definition.specs.Answer.{Cleared, ClearWithoutActive, head, head_bytes, answer_bytes}
 use Rattle.definition.specs.Sound.{station, sound}

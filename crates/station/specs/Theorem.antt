@@ -9,8 +9,8 @@ use Rattle.definition.specs.Book.{is_limit}
 use Rattle.definition.specs.Station.{Station, Outcome, fresh}
 use Rattle.definition.specs.Answer.{Answer}
 use Rattle.definition.specs.Perform.{perform}
-use Rattle.definition.specs.Laws.Steps.Surplus.{surplus, surplus_in, NoStray, Leaves, legal_strays, surplus_left}
-use Rattle.definition.specs.Laws.Twins.KeptLegal.{Kept, answered, refused, sound_kept, kept_sound}
+use Rattle.definition.proofs.Laws.Steps.Surplus.{surplus, surplus_in, NoStray, Leaves, legal_strays, surplus_left}
+use Rattle.definition.proofs.Laws.Twins.KeptLegal.{Kept, answered, refused, sound_kept, kept_sound}
 use Rattle.definition.specs.Sound.{encode, station, sound}
 use Rattle.definition.specs.Opening.{opened, open_of}
 use Rattle.definition.specs.Lists.{reply_of, step_of}
@@ -20,10 +20,10 @@ use Rattle.definition.specs.Claim.{Claim, Numbers}
 use Rattle.definition.specs.Balance.{Balance}
 use Rattle.definition.specs.Reach.{Reach}
 use Rattle.definition.specs.Lamps.{Lamps}
-use Rattle.definition.specs.Laws.Twins.ClaimHolds.{claim}
-use Rattle.definition.specs.Laws.Twins.BalanceHolds.{balanced}
-use Rattle.definition.specs.Laws.Twins.ReachHolds.{reached}
-use Rattle.definition.specs.Laws.Twins.LampsHold.{lit}
+use Rattle.definition.proofs.Laws.Twins.ClaimHolds.{claim}
+use Rattle.definition.proofs.Laws.Twins.BalanceHolds.{balanced}
+use Rattle.definition.proofs.Laws.Twins.ReachHolds.{reached}
+use Rattle.definition.proofs.Laws.Twins.LampsHold.{lit}
 
 -- from an opening that returned 0, for every list of calls, the refused ones included. `Claim` speaks of what is returned and left by
 -- `OpenReturns` and `StepReturns`: these are the contracts of `alarm_open` and `alarm_step`, and proofs/Promises.antt says so of the code

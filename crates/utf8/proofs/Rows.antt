@@ -13,7 +13,7 @@ use Rattle.octets.specs.Bytes.{Bytes}
 use Rattle.octets.specs.BoolLaws.{and_false, fails, both_left, both_right}
 use Rattle.octets.specs.RangeLaws.{upto, on_range}
 use Rattle.definition.specs.Utf8.{Range, Row, inside, tail, rows, fits, width_in, character}
-use Rattle.definition.specs.Laws.Text.Utf8.{rests, width_behind, by_first, fits_le}
+use Rattle.definition.proofs.Laws.Text.Utf8.{rests, width_behind, by_first, fits_le}
 use Rattle.utf8.specs.Meaning.{all_inside, second_then_tails, row_width}
 
 -- ---- a byte and a range

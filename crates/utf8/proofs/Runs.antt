@@ -11,7 +11,7 @@ use Rattle.octets.specs.Bytes.{Bytes}
 use Rattle.octets.specs.BoolLaws.{true_holds, both_left, both_right}
 use Rattle.octets.specs.PartLaws.{part_rest}
 use Rattle.definition.specs.Utf8.{Row, rows, fits, width_in, character, rows_from, utf8}
-use Rattle.definition.specs.Laws.Text.Utf8.{fits_le, utf8_next, utf8_stuck, utf8_append}
+use Rattle.definition.proofs.Laws.Text.Utf8.{fits_le, utf8_next, utf8_stuck, utf8_append}
 use Rattle.utf8.specs.Meaning.{plain, starts_plain, ahead}
 use Rattle.utf8.specs.PlainLaws.{plain_utf8}
 

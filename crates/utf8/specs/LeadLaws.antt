@@ -6,7 +6,7 @@ use Rattle.octets.specs.Bytes.{Bytes}
 use Rattle.octets.specs.BoolLaws.{holds, true_holds, both_left, both_right}
 use Rattle.octets.specs.RangeLaws.{on_range}
 use Rattle.definition.specs.Utf8.{Range, Row, inside, tail, rows, fits, one_more, rows_from, code_points, is_run, utf8}
-use Rattle.definition.specs.Laws.Text.Utf8.{by_suffix, rests, in_tail, all_tails, Front, stuck, starts, front, rows_next, rows_stuck}
+use Rattle.definition.proofs.Laws.Text.Utf8.{by_suffix, rests, in_tail, all_tails, Front, stuck, starts, front, rows_next, rows_stuck}
 use Rattle.utf8.specs.Meaning.{lead_in, leads_in}
 
 -- ---- the bytes of a row

@@ -6,7 +6,7 @@ use Rattle.std.proofs.Math.Dec.{leb-zero}
 use Rattle.octets.specs.Bytes.{Bytes}
 use Rattle.octets.specs.BoolLaws.{holds, both_left, both_right}
 use Rattle.definition.specs.Utf8.{fits, width_in, character, one_more, rows_from, code_points, is_run, utf8}
-use Rattle.definition.specs.Laws.Text.Utf8.{rows_next}
+use Rattle.definition.proofs.Laws.Text.Utf8.{rows_next}
 use Rattle.utf8.specs.Meaning.{plain}
 
 plain_character : (b : ℕ) (s : Bytes) → b < 128 → character (b ∷ s) ≡ 1

@@ -1,8 +1,8 @@
 -- `put_key` meets its contract: the digits stand behind the head.
 use native.Mathlib.Omega.{arith}
 use Rattle.definition.specs.Answer.{head}
-use Rattle.definition.specs.Laws.Text.Key.{length_hex}
-use Rattle.definition.specs.Laws.Steps.Answers.{length_head}
+use Rattle.definition.proofs.Laws.Text.Key.{length_hex}
+use Rattle.definition.proofs.Laws.Steps.Answers.{length_head}
 use Rattle.answers.proofs.Parts.{part_to, ◌then◌}
 use borrow.Author.Rules.{rules}
 use Rattle.answers.proofs.put_key.Statement.{statement}

@@ -4,7 +4,7 @@ use native.Mathlib.Omega.{arith}
 use Rattle.octets.specs.NumberLaws.{length_digits}
 use Rattle.octets.specs.PutLaws.{put_as}
 use Rattle.definition.specs.Answer.{Summary, head}
-use Rattle.definition.specs.Laws.Steps.Answers.{length_head}
+use Rattle.definition.proofs.Laws.Steps.Answers.{length_head}
 use Rattle.answers.specs.AnswerLaws.{answer_as}
 use Rattle.answers.proofs.Parts.{part, ◌then◌}
 use borrow.Author.Rules.{rules}

@@ -1,7 +1,7 @@
 -- `put_text` meets its contract: the string stands behind the head.
 use native.Mathlib.Omega.{arith}
 use Rattle.definition.specs.Answer.{head}
-use Rattle.definition.specs.Laws.Steps.Answers.{length_head}
+use Rattle.definition.proofs.Laws.Steps.Answers.{length_head}
 use Rattle.answers.proofs.Parts.{◌then◌}
 use borrow.Author.Rules.{rules}
 use Rattle.answers.proofs.put_text.Statement.{statement}

@@ -5,9 +5,9 @@ use native.Mathlib.Omega.{arith}
 use lib.ListN.{length-append}
 use Rattle.octets.specs.PutLaws.{put_as}
 use Rattle.definition.specs.Key.{string, hex}
-use Rattle.definition.specs.Laws.Text.Key.{length_hex}
+use Rattle.definition.proofs.Laws.Text.Key.{length_hex}
 use Rattle.definition.specs.Answer.{ClearWithoutActive, head, head_bytes}
-use Rattle.definition.specs.Laws.Steps.Answers.{length_head}
+use Rattle.definition.proofs.Laws.Steps.Answers.{length_head}
 use Rattle.model.specs.Meaning.{cause_part}
 use Rattle.answers.specs.AnswerLaws.{answer_as}
 use Rattle.answers.proofs.Parts.{◌then◌}

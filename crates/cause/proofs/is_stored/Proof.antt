@@ -1,6 +1,6 @@
 -- A name is stored as it is.
 use mathlib.Core.Path.{sym, ◌∙◌}
-use Rattle.definition.specs.Laws.Text.Cause.{stored_name}
+use Rattle.definition.proofs.Laws.Text.Cause.{stored_name}
 use borrow.Author.Rules.{rules}
 use Rattle.cause.proofs.is_stored.Statement.{statement}
 use Rattle.cause.proofs.is_stored.Tie as tie

@@ -4,7 +4,7 @@ use borrow.Author.Tests.{not-true, not-false}
 use Rattle.octets.specs.PartLaws.{part_rest}
 use Rattle.octets.specs.SameLaws.{begins_short}
 use Rattle.definition.specs.Cause.{other, dotted}
-use Rattle.definition.specs.Laws.Text.Cause.{not_stored, other_stored}
+use Rattle.definition.proofs.Laws.Text.Cause.{not_stored, other_stored}
 use borrow.Author.Rules.{rules}
 use Rattle.cause.proofs.other_stored.Statement.{statement}
 use Rattle.cause.proofs.other_stored.Tie as tie

@@ -1,6 +1,6 @@
 -- `expire_at`: the payload is taken out, changed and goes into history.
 use borrow.Author.Rules.{rules}
-use Rattle.definition.specs.Laws.Steps.ChangedLegal.{expired_legal}
+use Rattle.definition.proofs.Laws.Steps.ChangedLegal.{expired_legal}
 use Rattle.definition.specs.Steps.{retire, expired_by}
 use Rattle.expiry.specs.SweepLaws.{taken_payload, taken_files}
 use Rattle.expiry.proofs.expire_at.Statement.{statement}

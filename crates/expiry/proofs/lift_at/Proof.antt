@@ -1,6 +1,6 @@
 -- `lift_at`: the payload is taken out, changed and goes into history.
 use borrow.Author.Rules.{rules}
-use Rattle.definition.specs.Laws.Steps.ChangedLegal.{lifted_legal}
+use Rattle.definition.proofs.Laws.Steps.ChangedLegal.{lifted_legal}
 use Rattle.definition.specs.Steps.{revise, lifted_by}
 use Rattle.expiry.specs.SweepLaws.{taken_payload, taken_files}
 use Rattle.expiry.proofs.lift_at.Statement.{statement}

@@ -4,7 +4,7 @@ use native.Mathlib.Omega.{arith}
 use Rattle.octets.specs.PutLaws.{put_two, put_as}
 use Rattle.definition.specs.Limits.{short_limit}
 use Rattle.definition.specs.Key.{string, fed}
-use Rattle.definition.specs.Laws.Text.Key.{length_string}
+use Rattle.definition.proofs.Laws.Text.Key.{length_string}
 use Rattle.model.specs.PartLaws.{part_short}
 use Rattle.key.proofs.Rooms.{room_front, room_behind, fed_room}
 use borrow.Author.Rules.{rules}

@@ -4,7 +4,7 @@ use native.Mathlib.Omega.{arith}
 use lib.ListN.{drop}
 use Rattle.octets.specs.PartLaws.{part_rest}
 use Rattle.definition.specs.Key.{string, decimal}
-use Rattle.definition.specs.Laws.Text.Key.{length_string, length_decimal, five_decimal, five_digits}
+use Rattle.definition.proofs.Laws.Text.Key.{length_string, length_decimal, five_decimal, five_digits}
 use Rattle.octets.specs.PutLaws.{put_as}
 use borrow.Author.Rules.{rules}
 use Rattle.key.proofs.put_queue.Statement.{statement}

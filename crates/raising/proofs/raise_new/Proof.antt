@@ -3,7 +3,7 @@ use mathlib.Core.Path.{◌∙◌}
 use native.Mathlib.Omega.{arith}
 use borrow.Author.Rules.{rules}
 use Rattle.history.specs.StandingLaws.{standing_room}
-use Rattle.definition.specs.Laws.Steps.SoundChains.{active_limit, active_length_lem}
+use Rattle.definition.proofs.Laws.Steps.SoundChains.{active_limit, active_length_lem}
 use Rattle.raise_fields.specs.Meaning.{raise_value}
 use Rattle.raising.specs.RaiseLaws.{limit_met, has_room}
 use Rattle.raising.proofs.raise_new.Statement.{statement}

@@ -9,7 +9,7 @@ use lib.ListN.{take, drop, get_or}
 use Rattle.octets.specs.Bytes.{Bytes, value}
 use Rattle.octets.specs.PartLaws.{part_drop}
 use Rattle.definition.specs.Slot.{cut}
-use Rattle.definition.specs.Laws.Record.Slot.{part_first}
+use Rattle.definition.proofs.Laws.Record.Slot.{part_first}
 use Rattle.definition.specs.Record.{read_alarm}
 use Rattle.record.proofs.end.Statement.{statement}
 use Rattle.record.proofs.end.Tie as tie

@@ -11,7 +11,7 @@ use Rattle.octets.specs.Bytes.{Bytes, same}
 use Rattle.octets.specs.PartLaws.{part_drop}
 use Rattle.definition.specs.Alarm.{same_maybe}
 use Rattle.definition.specs.Slot.{string}
-use Rattle.definition.specs.Laws.Record.Slot.{part_first}
+use Rattle.definition.proofs.Laws.Record.Slot.{part_first}
 use Rattle.definition.specs.Record.{any_bytes}
 use Rattle.record.specs.Meaning.{string_at, option_at}
 use Rattle.record.proofs.has_some.Statement.{statement}

@@ -2,7 +2,7 @@
 use native.Mathlib.Omega.{arith}
 use Rattle.octets.specs.SpliceLaws.{marked_splices}
 use Rattle.definition.specs.Slot.{string_bytes}
-use Rattle.definition.specs.Laws.Record.ChangedSlot.{length_string}
+use Rattle.definition.proofs.Laws.Record.ChangedSlot.{length_string}
 use borrow.Author.Rules.{rules}
 use Rattle.record.proofs.put_marked.Statement.{statement}
 use Rattle.record.proofs.put_marked.Tie as tie

@@ -1,5 +1,5 @@
 -- The length, the bytes and the zeros behind them are three splices, one behind the other.
-use Rattle.definition.specs.Laws.Record.ChangedSlot.{string_splices}
+use Rattle.definition.proofs.Laws.Record.ChangedSlot.{string_splices}
 use borrow.Author.Rules.{rules}
 use Rattle.record.proofs.put_string.Statement.{statement}
 use Rattle.record.proofs.put_string.Tie as tie

@@ -1,7 +1,7 @@
 -- Both stretches are compared: what history's test comes to.
 use mathlib.Core.Path.{◌∙◌, ap₂}
 use mathlib.Core.Bool.{◌&&◌}
-use Rattle.definition.specs.Laws.Record.Identity.{same_identity_lem}
+use Rattle.definition.proofs.Laws.Record.Identity.{same_identity_lem}
 use borrow.Author.Rules.{rules}
 use Rattle.record.proofs.same_alarm.Statement.{statement}
 use Rattle.record.proofs.same_alarm.Tie as tie

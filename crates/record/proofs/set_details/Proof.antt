@@ -4,7 +4,7 @@ use mathlib.Core.List.{◌∷◌}
 use mathlib.Core.Option.{some}
 use Prim.Native.Nat.{suc}
 use native.Mathlib.Omega.{arith}
-use Rattle.definition.specs.Laws.Record.ChangedSlot.{length_string}
+use Rattle.definition.proofs.Laws.Record.ChangedSlot.{length_string}
 use Rattle.definition.specs.Alarm.{with_details}
 use Rattle.record.proofs.Writes.{becomes}
 use Rattle.definition.specs.Slot.{string_bytes}

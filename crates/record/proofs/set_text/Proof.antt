@@ -1,7 +1,7 @@
 -- The string's bytes are the field's slot.
 use mathlib.Core.Path.{refl}
 use native.Mathlib.Omega.{arith}
-use Rattle.definition.specs.Laws.Record.ChangedSlot.{length_string}
+use Rattle.definition.proofs.Laws.Record.ChangedSlot.{length_string}
 use Rattle.definition.specs.Alarm.{with_text}
 use Rattle.record.proofs.Writes.{becomes}
 use Rattle.definition.specs.Slot.{string_bytes}

@@ -3,7 +3,7 @@ use mathlib.Core.Path.{sym}
 use native.Mathlib.Omega.{arith}
 use Rattle.definition.specs.Slot.{cut}
 use Rattle.definition.specs.Record.{read_alarm}
-use Rattle.definition.specs.Laws.Record.Slot.{part_first}
+use Rattle.definition.proofs.Laws.Record.Slot.{part_first}
 use borrow.Author.Rules.{rules}
 use Rattle.record.proofs.severity.Statement.{statement}
 use Rattle.record.proofs.severity.Tie as tie

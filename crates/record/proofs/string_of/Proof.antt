@@ -4,7 +4,7 @@ use Prim.Native.Nat.{ℕ, ◌+◌}
 use native.Mathlib.Omega.{arith}
 use lib.ListN.{take, drop}
 use Rattle.definition.specs.Record.{any_bytes}
-use Rattle.definition.specs.Laws.Record.Slot.{part_lent, string_get, string_all}
+use Rattle.definition.proofs.Laws.Record.Slot.{part_lent, string_get, string_all}
 use borrow.Author.Rules.{rules}
 use Rattle.record.proofs.string_of.Statement.{statement}
 use Rattle.record.proofs.string_of.Tie as tie

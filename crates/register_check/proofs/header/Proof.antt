@@ -5,7 +5,7 @@ use native.Mathlib.Omega.{arith}
 use borrow.Author.Tests.{not-true, not-false}
 use lib.ListN.{take, drop}
 use Rattle.octets.specs.Bytes.{Bytes, zeros, at32}
-use Rattle.definition.specs.Laws.Book.CheckParts.{confirms, refutes, capacity_read, numbers_of_lem, size_of}
+use Rattle.definition.proofs.Laws.Book.CheckParts.{confirms, refutes, capacity_read, numbers_of_lem, size_of}
 use Rattle.definition.specs.Clauses.LegalBook.{Limit}
 use Rattle.definition.specs.Clauses.Check.{Decides, Lengths}
 use Rattle.register_check.specs.JudgeLaws.{limits_decide, tail_decides}

@@ -4,7 +4,7 @@ use borrow.Author.Tests.{not-true, not-false}
 use Prim.Native.Nat.{◌-◌}
 use borrow.Author.Rules.{rules}
 use Rattle.definition.specs.Book.{record_of}
-use Rattle.definition.specs.Laws.Book.LinkLoops.{went_zero, went_past, went_stray}
+use Rattle.definition.proofs.Laws.Book.LinkLoops.{went_zero, went_past, went_stray}
 use Rattle.register.specs.WalkLaws.{content_width}
 use Rattle.register_check.specs.Meaning.{Linked, holds, passes}
 use Rattle.register_check.specs.WalkLaws.{Tested, tested_start, tested_on, tested_not, tested_end}

@@ -6,7 +6,7 @@ use lib.ListN.{length}
 use Rattle.definition.specs.Value.{CallValue}
 use Rattle.definition.specs.Clauses.LegalFields.{LegalCall}
 use Rattle.definition.specs.Perform.{perform}
-use Rattle.definition.specs.Laws.Text.ParsedLegal.{call_legal}
+use Rattle.definition.proofs.Laws.Text.ParsedLegal.{call_legal}
 use Rattle.reply.specs.Meaning.{Replies}
 use Rattle.station.specs.StepLaws.{stepped, unsound}
 use Rattle.station.proofs.Checked.{checked}

@@ -3,7 +3,7 @@ use mathlib.Core.Path.{ap}
 use mathlib.Core.List.{◌∷◌}
 use Prim.Native.Nat.{suc}
 use Rattle.definition.specs.Record.{short}
-use Rattle.definition.specs.Laws.Record.ChangedSlot.{length_string}
+use Rattle.definition.proofs.Laws.Record.ChangedSlot.{length_string}
 use Rattle.model.specs.Meaning.{part}
 use Rattle.build.proofs.Lent.{object_laid}
 use borrow.Author.Rules.{rules}

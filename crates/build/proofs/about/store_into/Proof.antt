@@ -1,7 +1,7 @@
 -- Three parts, one behind the other.
 use Rattle.definition.specs.Slot.{option}
 use Rattle.definition.specs.Record.{short}
-use Rattle.definition.specs.Laws.Record.Payloads.{is_place}
+use Rattle.definition.proofs.Laws.Record.Payloads.{is_place}
 use Rattle.model.specs.Meaning.{part, opt_part}
 use Rattle.build.proofs.Lent.{object_laid}
 use borrow.Author.Rules.{rules}

@@ -1,5 +1,5 @@
 -- Three bytes are enough to see white space.
-use Rattle.definition.specs.Laws.Text.White.{space_front}
+use Rattle.definition.proofs.Laws.Text.White.{space_front}
 use mathlib.Core.Path.{◌∙◌, sym}
 use lib.ListN.{get_or}
 use borrow.Author.Rules.{rules}

@@ -4,7 +4,7 @@ use Prim.Native.Nat.{◌-◌, ◌≤◌}
 use native.Mathlib.Omega.{arith}
 use lib.ListN.{length, drop}
 use Rattle.definition.specs.White.{start_from}
-use Rattle.definition.specs.Laws.Text.White.{start_plain}
+use Rattle.definition.proofs.Laws.Text.White.{start_plain}
 use Rattle.cause.proofs.Trim.{start_step, start_end}
 use borrow.Author.Rules.{rules}
 use Rattle.cause.proofs.white.trim_start.Statement.{statement}

@@ -6,7 +6,7 @@ use borrow.Author.Rules.{rules}
 use borrow.Author.Tests.{not-true, not-false}
 use Rattle.octets.specs.BoolLaws.{true_holds}
 use Rattle.definition.specs.Book.{is_limit}
-use Rattle.definition.specs.Laws.Book.BookTests.{limits_to}
+use Rattle.definition.proofs.Laws.Book.BookTests.{limits_to}
 use Rattle.model.specs.Opening.{Limits}
 use Rattle.model.specs.OpeningLaws.{open_limits, open_length, open_done, parts_of_lem}
 use Rattle.model.proofs.Record.open.Statement.{statement}

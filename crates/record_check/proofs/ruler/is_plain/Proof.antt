@@ -4,7 +4,7 @@ use Prim.Native.Nat.{◌-◌}
 use native.Mathlib.Omega.{arith}
 use lib.ListN.{length, take, drop}
 use Rattle.octets.specs.Bytes.{Bytes, blank}
-use Rattle.definition.specs.Laws.Record.Slot.{part_lent}
+use Rattle.definition.proofs.Laws.Record.Slot.{part_lent}
 use Rattle.record_check.specs.Ruler.{under}
 use Rattle.record_check.specs.RulerLaws.{length_ruler, left_of_room}
 use borrow.Author.Rules.{rules}

@@ -1,0 +1,2 @@
+-- what follows from the definition
+pub mod Laws
