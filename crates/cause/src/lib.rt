@@ -6,6 +6,8 @@
 //
 // Both answer as the definition does, for every string, UTF-8 or not: read `cause_of` and `stored` in crates/definition/specs/Cause.antt
 // first. `names` knows the names and writes one by its place; `white` knows white space.
+#![tactic(auto)]
+
 ghost use Rattle.std.specs.Prelude.{◌≡◌, false};
 ghost use Rattle.definition.specs.Cause.{names, one_of, dotted, cause_of, stored};
 ghost use Rattle.cause.specs.Meaning.{cause_value, cause_fits};

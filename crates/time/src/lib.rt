@@ -3,6 +3,8 @@
 // There are no signed numbers in the code: adding 2^63 modulo 2^64 turns the signed order into that of unsigned
 // numbers, and the definition compares in the same way (`before` in definition, specs/Alarm.antt; docs/DECISIONS.md,
 // 4.8).
+#![tactic(auto)]
+
 ghost use Rattle.std.specs.Prelude.{◌≡◌};
 ghost use Rattle.definition.specs.Alarm.{before, late as the_late};
 

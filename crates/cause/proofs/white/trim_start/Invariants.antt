@@ -1,0 +1,16 @@
+-- White space is passed from the start on; what is left trims to the same.
+use mathlib.Core.Path.{◌≡◌, ◌∙◌, sym}
+use Prim.Native.Nat.{◌-◌, ◌≤◌}
+use native.Mathlib.Omega.{arith}
+use lib.ListN.{length, drop}
+use Rattle.definition.specs.White.{start_from}
+use Rattle.definition.proofs.Laws.Text.White.{start_plain}
+use Rattle.cause.proofs.Trim.{start_step, start_end}
+use borrow.Author.Rules.{rules}
+use Rattle.cause.proofs.white.trim_start.Given as goal
+
+abbrev pub invariant-loop-i : goal.invariant-loop-i
+invariant-loop-i l = (l.i ≤ length l.s) × (start_from 0 (drop l.i l.s) ≡ start_from 0 l.s)
+
+abbrev pub decreases-loop-i : goal.decreases-loop-i
+decreases-loop-i l = length l.s - l.i
