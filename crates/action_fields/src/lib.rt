@@ -5,6 +5,8 @@
 // With a policy, a call says who asks (the actor), why and for what (the request), and what the authoriser answered (the verdict).
 // specs/Meaning.antt says which value of the definition each struct means, and within which limits its spans lie: who puts them into an
 // audit event relies on these.
+#![tactic(auto)]
+
 ghost use Rattle.definition.specs.Parse.{plain_fields, scope, actor, request, verdict, policy_from, policy_fields};
 ghost use Rattle.fields.specs.Cursor.{Says};
 ghost use Rattle.action_fields.specs.Meaning.{plain_value, scope_value, actor_value, request_value, verdict_value, policy_value};

@@ -6,6 +6,8 @@
 //
 // Each operation has a reader, `.._at`, which reads by the crate of its fields and answers a call. A new operation is a variant of
 // `Parsed`, with its lines in `meaning` and `parsed_within`, a reader, and an arm of `operation_at`.
+#![tactic(auto)]
+
 ghost use Rattle.std.specs.Prelude.{◌≡◌, ◌||◌, leb, eqb};
 ghost use Rattle.definition.specs.Reader.{number, into};
 ghost use Rattle.definition.specs.Value.{CallValue, untimed};

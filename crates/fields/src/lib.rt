@@ -9,6 +9,8 @@
 // the same name does (Reader.antt), and that a span lies in what was lent, within its limit: who looks at its bytes later tests nothing.
 // `Takes` in specs/Part.antt is that promise on a part's bytes, `Says` in specs/Cursor.antt on a call's. specs/CursorLaws.antt has the laws by
 // which the readers of a row of fields are proved: `step`, `tested`, `done`; specs/PartLaws.antt those that carry an answer over.
+#![tactic(auto)]
+
 ghost use Rattle.std.specs.Prelude.{◌≡◌, ◌+◌, ◌^◌, ◌≤◌, ◌<◌, length};
 ghost use Rattle.definition.specs.Limits.{text_limit};
 ghost use Rattle.definition.specs.Reader.{bytes, number, choice, text, optional, cause_text};

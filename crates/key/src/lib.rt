@@ -5,6 +5,8 @@
 // functions that put strings receive its bytes. The buffer is as wide as the longest fields need, so that nothing is tested: each
 // function asks for room for what it puts (specs/Hashed.antt). `key_of` promises the definition's `key_of`; `put_hex` writes a key's
 // digits into an answer.
+#![tactic(auto)]
+
 ghost use Rattle.std.specs.Prelude.{◌≡◌, ◌+◌, ◌-◌, ◌*◌, ◌≤◌, ◌<◌, length};
 ghost use Rattle.std.proofs.Math.Option.{some};
 ghost use Rattle.octets.specs.Bytes.{splice};

@@ -3,6 +3,8 @@
 // `key_at` reads them all. An object is a byte, its kind, and then the strings of that kind: kinds 1 to 3 have two and kinds 5 to 7 one,
 // so there is one reader for each of these groups, and a function that makes the object of a kind from its strings. specs/Kinds.antt says
 // which object that is. Places are tenant, slice and region, each optional; that a raise's region must not be empty is raise_fields' rule.
+#![tactic(auto)]
+
 ghost use Rattle.octets.specs.Bytes.{Bytes};
 ghost use Rattle.definition.specs.Limits.{short_limit};
 ghost use Rattle.definition.specs.Reader.{into, text};

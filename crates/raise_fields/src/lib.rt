@@ -5,6 +5,8 @@
 // more than 120 code points with 33, before the details are.
 // specs/Meaning.antt says which value of the definition each struct means, and within which limits its spans lie: who puts them into a
 // record relies on these.
+#![tactic(auto)]
+
 ghost use Rattle.std.specs.Prelude.{◌≡◌};
 ghost use Rattle.definition.specs.Parse.{raise_head, raise_fields, clear_fields};
 ghost use Rattle.model.specs.Meaning.{KeyWithin};

@@ -3,6 +3,8 @@
 // What is hashed for a key and what answers hold are made of such strings, one behind the other: each function returns the place behind
 // what it put, and promises by `Put` (octets) that it changed no other byte. A cause is put in its stored form: one of the 21 names, or
 // `other:` and the trimmed name, which the parser left in the call. A call's limits bound all lengths; who calls sees to the room.
+#![tactic(auto)]
+
 ghost use Rattle.std.specs.Prelude.{[], ◌++◌, ◌+◌, ◌≤◌, ◌<◌, length, get_or};
 ghost use Rattle.octets.specs.Put.{Put};
 ghost use Rattle.definition.specs.Limits.{cause_limit};

@@ -1,0 +1,9 @@
+-- `option_on` meets its contract: none, or the span moved.
+use borrow.Author.Rules.{rules}
+use Rattle.fields.proofs.option_on.Goals as goal
+
+pub span_on-requires : goal.span_on-requires
+span_on-requires c = rw c.in-Present.is at c.requires
+
+pub returns-in-Present : goal.returns-in-Present
+returns-in-Present c = rw (c.in-Present.is, c.span_on.ensures)

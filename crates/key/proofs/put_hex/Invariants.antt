@@ -1,0 +1,18 @@
+-- `put_hex` meets its contract: the digits of the bytes passed are in their place.
+use mathlib.Core.Path.{◌≡◌, refl, sym, ap, ◌∙◌}
+use Prim.Native.Nat.{◌≤◌, ◌-◌}
+use native.Mathlib.Omega.{arith}
+use borrow.Author.Rules.{rules}
+use lib.ListN.{length, take, length-set}
+use lib.Seq.{take_all}
+use Rattle.octets.specs.Bytes.{splice}
+use Rattle.octets.specs.SpliceLaws.{splice_none}
+use Rattle.definition.specs.Key.{hex}
+use Rattle.key.proofs.HexLaws.{hex_step}
+use Rattle.key.proofs.put_hex.Given as goal
+
+abbrev pub invariant-loop-i : goal.invariant-loop-i
+invariant-loop-i l = (l.i ≤ length l.key) × (length l.answer ≡ length l.initial.answer) × (l.answer ≡ splice l.initial.answer l.at (hex (take l.i l.key)))
+
+abbrev pub decreases-loop-i : goal.decreases-loop-i
+decreases-loop-i l = length l.key - l.i
