@@ -5,6 +5,8 @@
 // `Becomes` (specs/Change.antt): just these bytes are replaced, and what held an alarm holds it with that field
 // changed. A setter's proof is the number of its slot, since one law of `definition` has all slots. A string's
 // slot has room for the longest string of its field, with zeros behind a shorter one: `put_string` writes both.
+#![tactic(auto)]
+
 ghost use Rattle.std.specs.Prelude.{◌≡◌, [], ◌∷◌, ◌+◌, ◌≤◌, T, length};
 ghost use Rattle.std.proofs.Math.Option.{none, some};
 ghost use Rattle.octets.specs.Bytes.{same, zeros, digits, splice};

@@ -7,6 +7,8 @@
 // looked at, Laws/Book/CheckSound.antt and CheckComplete.antt that it comes to the same).
 //
 // The last records of the walks are the answer's `Ends`: operations add to the chains there, and need no walk of their own.
+#![tactic(auto)]
+
 ghost use Rattle.std.specs.Prelude.{◌≡◌, ◌+◌, ◌*◌, ◌≤◌, ◌<◌, length};
 ghost use Rattle.octets.specs.Bytes.{at32};
 ghost use Rattle.definition.specs.Limits.{record_width};

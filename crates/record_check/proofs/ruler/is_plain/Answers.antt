@@ -1,0 +1,23 @@
+-- The ruler lies along the room with its highest bits over the string.
+use mathlib.Core.Path.{ap, ◌∙◌}
+use Prim.Native.Nat.{◌-◌}
+use native.Mathlib.Omega.{arith}
+use lib.ListN.{length, take, drop}
+use Rattle.octets.specs.Bytes.{Bytes, blank}
+use Rattle.definition.proofs.Laws.Record.Slot.{part_lent}
+use Rattle.record_check.specs.Ruler.{under}
+use Rattle.record_check.specs.RulerLaws.{length_ruler, left_of_room}
+use borrow.Author.Rules.{rules}
+use Rattle.record_check.proofs.ruler.is_plain.Goals as goal
+
+pub slice_bounds-is_clear-end : goal.slice_bounds-is_clear-end
+slice_bounds-is_clear-end c =
+    let l = ap length c.requires.2 ∙ length_ruler in
+    omega arith
+
+pub returns : goal.returns
+returns c =
+    c.is_clear.ensures
+    ∙ ap (λ (r : Bytes). blank (under c.args.room.now r)) (part_lent c.args.ruler.now (512 - c.args.m) (length c.args.room.now))
+    ∙ ap (λ (r : Bytes). blank (under c.args.room.now (take (length c.args.room.now) (drop (512 - c.args.m) r)))) c.requires.2
+    ∙ left_of_room c.args.room.now c.args.m c.requires.0 c.requires.1 (λ i. omega (arith, c.shared_slice_known-1.given i))
