@@ -7,6 +7,8 @@
 //
 // Lists are written entry by entry with the head last (specs/EntryLaws.antt); that an answer is the one which a step
 // promises is in specs/AnswerLaws.antt.
+#![tactic(auto)]
+
 ghost use Rattle.std.specs.Prelude.{◌≡◌, [], ◌++◌, ◌+◌, ◌≤◌, ◌<◌, length};
 ghost use Rattle.octets.specs.Bytes.{be32};
 ghost use Rattle.octets.specs.Put.{Put};

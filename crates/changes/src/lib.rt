@@ -5,6 +5,8 @@
 // `record`, in which each gives what its field becomes; specs/ChangeLaws.antt joins them to the step's change. No
 // function looks at a byte. What a raise brings to the alarm is `News`, so that this crate does not know the parser of
 // raises.
+#![tactic(auto)]
+
 ghost use Rattle.std.specs.Prelude.{◌≡◌, length};
 ghost use Rattle.std.proofs.Math.Option.{some};
 ghost use Rattle.definition.specs.Limits.{text_limit, details_limit};

@@ -4,6 +4,8 @@
 // nothing. `Replies` (specs/Meaning.antt) says which of the two a step of the definition comes to, on the register's and the answer's bytes;
 // the laws beside it (specs/ReplyLaws.antt) serve every operation. The entry points hand their reply to `tell`, the one place where it
 // becomes the number that is returned and the length that is set. Next: crates/operations, which makes the replies.
+#![tactic(auto)]
+
 ghost use Rattle.std.specs.Prelude.{◌≡◌};
 ghost use Rattle.reply.specs.Meaning.{number_in, length_in};
 

@@ -3,6 +3,8 @@
 // The definition lists the causes (`guarded` in specs/Alarm.antt) and says which alarms are meant (`is_critical`). The
 // code has the names once more, as bytes, and is proved to find just these. Crate `admin` asks before it suppresses. The
 // payload's fields are read by `record`; nothing of the text or of the details is looked at.
+#![tactic(auto)]
+
 ghost use Rattle.std.specs.Prelude.{◌≡◌, length};
 ghost use Rattle.definition.specs.Alarm.{guarded, is_critical};
 ghost use Rattle.definition.specs.Book.{payload_width};
