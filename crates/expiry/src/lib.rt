@@ -5,6 +5,8 @@
 // history before the next is looked at. So the sweep reads the next index first: a freed record is the one that history takes. `Sweep`
 // (specs/Sweep.antt) is what holds at each turn: the register is that of the definition's step on the part that is passed, and what is left of the
 // chain is untouched. Next: specs/SweepLaws.antt, how a sweep starts, goes on and ends.
+#![tactic(auto)]
+
 ghost use Rattle.std.specs.Prelude.{◌≡◌, ◌+◌, ◌*◌, ◌≤◌, ◌<◌, length};
 ghost use Rattle.definition.specs.Chain.{entry};
 ghost use Rattle.definition.specs.Alarm.{has_ended, is_due, is_over};

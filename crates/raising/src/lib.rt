@@ -5,6 +5,8 @@
 // the active chain is full (code 5) or the id is active (31). It has room for a record in the answer, and the chains' ends, from its
 // caller. The payloads are made by `changes` and `build`, and go to the register by `history`. Next: specs/RaiseLaws.antt has the step as the code's
 // moves make it, one law for each way.
+#![tactic(auto)]
+
 ghost use Rattle.std.specs.Prelude.{◌≡◌, T, length};
 ghost use Rattle.definition.specs.Chain.{present, first};
 ghost use Rattle.definition.specs.Alarm.{has_key, has_id};

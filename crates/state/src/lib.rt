@@ -4,6 +4,8 @@
 // (crates/history), and answers. `act` is the step of an acknowledgement or a suppression on a record that was found; the policy gate
 // (crates/admin) ends in it too. `clear_at` is the definition's `clear_at`: it is given what a search for the key found, and the search is the
 // caller's. Next: specs/ActLaws.antt and specs/ClearLaws.antt, the steps as the code's moves make them.
+#![tactic(auto)]
+
 ghost use Rattle.std.specs.Prelude.{◌≡◌, ◌≤◌, T, length};
 ghost use Rattle.definition.specs.Limits.{short_limit};
 ghost use Rattle.definition.specs.Chain.{entry, first};

@@ -1,0 +1,16 @@
+-- `is_due`: the time of the last update is compared.
+use mathlib.Core.Path.{ap, ◌∙◌}
+use Prim.Native.Nat.{ℕ}
+use borrow.Author.Rules.{rules}
+use Rattle.octets.specs.Bytes.{Bytes}
+use Rattle.definition.specs.Alarm.{before}
+use Rattle.definition.specs.Record.{read_alarm}
+use Rattle.register.specs.WalkLaws.{content_width}
+use Rattle.expiry.proofs.is_due.Goals as goal
+
+pub updated_at-requires : goal.updated_at-requires
+updated_at-requires c = content_width _ _ c.requires c.payload.ensures
+
+pub returns : goal.returns
+returns c =
+    c.is_before.ensures ∙ ap (λ (t : ℕ). before t c.args.cutoff) (c.updated_at.ensures ∙ ap (λ (q : Bytes). (read_alarm q).updated_at) c.payload.ensures)

@@ -1,0 +1,15 @@
+-- `sweep`: along the active chain, from its first record to its last.
+use mathlib.Core.Path.{◌≡◌, refl}
+use Prim.Native.Nat.{◌+◌, ◌-◌, ◌*◌, ◌≤◌}
+use native.Mathlib.Omega.{arith}
+use borrow.Author.Rules.{rules}
+use lib.ListN.{length}
+use Rattle.expiry.specs.Sweep.{Sweep}
+use Rattle.expiry.specs.SweepLaws.{sweep_start, meets_fits, meets_free, sweep_end}
+use Rattle.expiry.proofs.sweep.Given as goal
+
+abbrev pub invariant-loop-k : goal.invariant-loop-k
+invariant-loop-k l = Sweep l.round l.cutoff l.initial.register l.register l.n l.at l.s l.k × (length l.register ≡ length l.initial.register)
+
+abbrev pub decreases-loop-k : goal.decreases-loop-k
+decreases-loop-k l = l.n - l.k

@@ -1,0 +1,28 @@
+-- `is_active`: whether the search finds one.
+use mathlib.Core.Path.{◌≡◌, sym, ap, ◌∙◌}
+use mathlib.Core.Option.{Option}
+use borrow.Author.Rules.{rules}
+use Rattle.octets.specs.Bytes.{Bytes}
+use Rattle.definition.specs.Chain.{Entry, present, first}
+use Rattle.definition.specs.Alarm.{Alarm, has_id}
+use Rattle.definition.specs.Sound.{station}
+use Rattle.model.specs.Meaning.{part}
+use Rattle.register.specs.SearchLaws.{finds_first}
+use Rattle.raising.proofs.is_active.Goals as goal
+
+pub find_id-requires : goal.find_id-requires
+find_id-requires c = c.requires.0
+
+-- whether one is there, by what the search found
+found :
+    (c : goal.After-find_id) {o : Option (Entry Alarm)} →
+    first (has_id c.part.result.now) (station c.args.register.now).active ≡ o →
+    present o ≡ present (first (has_id (part c.args.call.now c.args.id)) (station c.args.register.now).active)
+found c e =
+    ap present (sym e) ∙ ap (λ (d : Bytes). present (first (has_id d) (station c.args.register.now).active)) c.part.ensures
+
+pub returns-in-At : goal.returns-in-At
+returns-in-At c = found c (finds_first c.find_id.ensures c.in-At.is)
+
+pub returns-in-Nowhere : goal.returns-in-Nowhere
+returns-in-Nowhere c = found c (finds_first c.find_id.ensures c.in-Nowhere.is)
