@@ -9,7 +9,7 @@ ghost use Rattle.definition.specs.Cause.{names, one_of};
 ghost use Rattle.cause.specs.Meaning.{named, place_of, or_else};
 
 // Which of the names a string is.
-#[derive(Drop)]
+#[derive(Clone, Copy)]
 pub(crate) enum Named {
     At(usize),
     Nothing,

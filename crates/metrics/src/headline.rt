@@ -55,7 +55,7 @@ fn shown(state: u8, severity: u8) -> u8
 }
 
 // What the active alarms that are not suppressed come to: the worst severity, and the worst impact on readiness.
-#[derive(Drop)]
+#[derive(Clone, Copy)]
 pub(crate) struct Headline {
     pub(crate) worst: u8,
     pub(crate) readiness: u8,

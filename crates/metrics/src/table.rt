@@ -16,7 +16,7 @@ use register::ACTIVE;
 pub(crate) const ROOM: usize = 1024;
 
 // How far a table goes: `rows` rows have the ratings of all places before `place`, at which record `record` stands.
-#[derive(Drop)]
+#[derive(Clone, Copy)]
 pub(crate) struct Covered {
     pub(crate) rows: usize,
     pub(crate) place: u32,

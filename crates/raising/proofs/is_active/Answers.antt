@@ -15,14 +15,12 @@ find_id-requires c = c.requires.0
 
 -- whether one is there, by what the search found
 found :
-    (c : goal.After-find_id) {o : Option (Entry Alarm)} →
-    first (has_id c.part.result.now) (station c.args.register.now).active ≡ o →
-    present o ≡ present (first (has_id (part c.args.call.now c.args.id)) (station c.args.register.now).active)
-found c e =
-    ap present (sym e) ∙ ap (λ (d : Bytes). present (first (has_id d) (station c.args.register.now).active)) c.part.ensures
+    (b s d : Bytes) {o : Option (Entry Alarm)} → d ≡ s → first (has_id d) (station b).active ≡ o →
+    present o ≡ present (first (has_id s) (station b).active)
+found b s d w e = ap present (sym e) ∙ ap (λ (x : Bytes). present (first (has_id x) (station b).active)) w
 
 pub returns-in-At : goal.returns-in-At
-returns-in-At c = found c (finds_first c.find_id.ensures c.in-At.is)
+returns-in-At c = found c.args.register.now _ c.part.result.now c.part.ensures (finds_first c.find_id.ensures c.in-At.is)
 
 pub returns-in-Nowhere : goal.returns-in-Nowhere
-returns-in-Nowhere c = found c (finds_first c.find_id.ensures c.in-Nowhere.is)
+returns-in-Nowhere c = found c.args.register.now _ c.part.result.now c.part.ensures (finds_first c.find_id.ensures c.in-Nowhere.is)

@@ -25,5 +25,5 @@ insert-requires c =
 
 pub returns : goal.returns
 returns c =
-    has_room (raise_value c.args.call.now c.args.r) c.args.key.now c.args.register.now c.requires.0.standing.whole c.insert.result c.insert.new.register c.args.answer.now c.insert.new.ends.1.1.1.1.0
+    has_room (raise_value c.args.call.now c.args.r) c.args.key.now c.args.register.now c.requires.0.standing.whole c.insert.result c.insert.new.register c.args.answer.now c.insert.new.answer
     (omega (arith, c.if-limit-held.false, c.limit-limit.ensures, c.held.ensures, active_limit c.args.register.now c.requires.0.standing.whole, active_length_lem c.args.register.now c.requires.0.standing.whole)) c.insert.ensures

@@ -1,0 +1,36 @@
+-- `amount`: of the records passed, as many as were found have the rating.
+use Prim.Native.Nat.{◌-◌}
+use mathlib.Core.Path.{sym}
+use native.Mathlib.Omega.{arith}
+use borrow.Author.Rules.{rules}
+use Rattle.definition.specs.Reports.{rating, same_rating}
+use Rattle.history.specs.Walk.{Reached}
+use Rattle.history.specs.WalkLaws.{reached_most, reached_fits, reached_next, field_here, field_end}
+use Rattle.history.specs.CountLaws.{Counted, counted_next, counted_all}
+use Rattle.metrics.specs.Meaning.{ratings, rating_at}
+use Rattle.metrics.specs.FirstLaws.{counted_from}
+use Rattle.metrics.specs.RowLaws.{reached_as}
+use Rattle.metrics.proofs.amount.Goals as goal
+
+pub loop-p-init : goal.loop-p-init
+loop-p-init c =
+    (reached_as (sym c.held-n.ensures) c.requires.1.reached, counted_from (rating_at c.args.register.now c.args.i) c.args.k (ratings c.args.register.now) c.requires.2)
+
+pub same-requires : goal.same-requires
+same-requires c =
+    (reached_fits c.requires.1.reached c.requires.1.within, reached_fits c.loop-p.invariant.0 c.loop-p-test.true)
+
+pub plus_one-found-requires : goal.plus_one-found-requires
+plus_one-found-requires c =
+    omega (arith, c.loop-p-test.true, c.loop-p.invariant.1.few, reached_most c.loop-p.invariant.0)
+
+pub loop-p-preserved : goal.loop-p-preserved
+loop-p-preserved c =
+    (reached_next c.loop-p.invariant.0 c.loop-p-test.true c.next-at.ensures, counted_next c.loop-p.invariant.1 (field_here c.loop-p.invariant.0 c.loop-p-test.true rating) c.same.ensures c.plus_one-found.ensures)
+
+pub returns : goal.returns
+returns c =
+    counted_all c.loop-p.invariant.1 (field_end c.loop-p.invariant.0 (omega (arith, c.loop-p-test.false)) rating)
+
+pub next-at-requires : goal.next-at-requires
+next-at-requires c = reached_fits c.loop-p.invariant.0 c.loop-p-test.true

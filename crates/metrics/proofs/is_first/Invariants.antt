@@ -1,0 +1,19 @@
+-- `is_first`: no row has the rating, and none of the places passed.
+use Prim.Native.Nat.{◌-◌}
+use mathlib.Core.Path.{sym, ◌∙◌}
+use native.Mathlib.Omega.{arith}
+use borrow.Author.Rules.{rules}
+use Rattle.octets.specs.Bytes.{at32}
+use Rattle.definition.specs.Reports.{rating}
+use Rattle.history.specs.Walk.{Reached}
+use Rattle.history.specs.WalkLaws.{reached_fits, reached_next, field_here}
+use Rattle.metrics.specs.Meaning.{ratings, rating_at}
+use Rattle.metrics.specs.FirstLaws.{seen_later, Unmet, unmet_from, unmet_next, met, unmet_all}
+use Rattle.metrics.specs.RowLaws.{covers_row, covers_none}
+use Rattle.metrics.proofs.is_first.Given as goal
+
+abbrev pub invariant-loop-j : goal.invariant-loop-j
+invariant-loop-j l = Reached l.register 0 (at32 l.register 16) l.j l.at × Unmet (rating_at l.register l.i) (ratings l.register) l.k l.j
+
+abbrev pub decreases-loop-j : goal.decreases-loop-j
+decreases-loop-j l = l.k - l.j

@@ -1,0 +1,14 @@
+-- `count_on`: with the rest added, the rows are the first of the tally.
+use Prim.Native.Nat.{◌-◌}
+use mathlib.Core.Path.{sym}
+use native.Mathlib.Omega.{arith}
+use borrow.Author.Rules.{rules}
+use Rattle.history.specs.WalkLaws.{reached_fits, reached_most}
+use Rattle.metrics.specs.RowLaws.{collected_as, Counting, counting_none, counting_next, counting_all}
+use Rattle.metrics.proofs.table.count_on.Given as goal
+
+abbrev pub invariant-loop-k : goal.invariant-loop-k
+invariant-loop-k l = Counting l.register l.n l.k l.at l.covered.rows l.records l.amounts
+
+abbrev pub decreases-loop-k : goal.decreases-loop-k
+decreases-loop-k l = l.n - l.k

@@ -1,0 +1,36 @@
+-- `row_of`: no row passed has the rating.
+use Prim.Native.Nat.{ℕ, ◌-◌, ◌≤◌, ◌<◌}
+use mathlib.Core.Path.{◌≡◌, sym, ◌∙◌}
+use mathlib.Core.Bool.{false}
+use native.Mathlib.Omega.{arith}
+use borrow.Author.Count.{below_more}
+use borrow.Author.Rules.{rules}
+use lib.ListN.{get_or}
+use Rattle.definition.specs.Reports.{same_rating}
+use Rattle.metrics.specs.Meaning.{rating_at}
+use Rattle.metrics.proofs.table.row_of.Goals as goal
+
+pub loop-j-init : goal.loop-j-init
+loop-j-init c = (omega arith, λ x h. absurd (omega arith))
+
+pub same-requires : goal.same-requires
+same-requires c =
+    (c.requires.1 c.loop-j.j c.loop-j-test.true, c.requires.2)
+
+pub returns-then-same : goal.returns-then-same
+returns-then-same c =
+    record { within = omega (arith, c.loop-j-test.true); before = c.loop-j.invariant.1; here = λ h. sym c.same.ensures ∙ c.if-same.true }
+
+pub loop-j-preserved : goal.loop-j-preserved
+loop-j-preserved c =
+    (omega (arith, c.loop-j-test.true), below_more _ _ c.loop-j.invariant.1 (sym c.same.ensures ∙ c.if-same.false))
+
+pub returns : goal.returns
+returns c =
+    record { within = omega arith; before = λ x h. c.loop-j.invariant.1 x (omega (arith, c.loop-j-test.false)); here = λ h. absurd (omega arith) }
+
+pub offset_bounds-records-j : goal.offset_bounds-records-j
+offset_bounds-records-j c = omega (arith, c.loop-j-test.true, c.requires.0)
+
+pub bounds-records-j : goal.bounds-records-j
+bounds-records-j c = omega (arith, c.loop-j-test.true, c.requires.0)

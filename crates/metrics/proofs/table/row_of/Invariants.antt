@@ -1,0 +1,17 @@
+-- `row_of`: no row passed has the rating.
+use Prim.Native.Nat.{ℕ, ◌-◌, ◌≤◌, ◌<◌}
+use mathlib.Core.Path.{◌≡◌, sym, ◌∙◌}
+use mathlib.Core.Bool.{false}
+use native.Mathlib.Omega.{arith}
+use borrow.Author.Count.{below_more}
+use borrow.Author.Rules.{rules}
+use lib.ListN.{get_or}
+use Rattle.definition.specs.Reports.{same_rating}
+use Rattle.metrics.specs.Meaning.{rating_at}
+use Rattle.metrics.proofs.table.row_of.Given as goal
+
+abbrev pub invariant-loop-j : goal.invariant-loop-j
+invariant-loop-j l = (l.j ≤ l.m) × ((x : ℕ) → x < l.j → same_rating (rating_at l.register (get_or l.records x 0)) (rating_at l.register l.i) ≡ false)
+
+abbrev pub decreases-loop-j : goal.decreases-loop-j
+decreases-loop-j l = l.m - l.j

@@ -1,0 +1,35 @@
+-- `rows_end`: where the entries of the rows passed end.
+use Prim.Native.Nat.{◌-◌}
+use native.Mathlib.Omega.{arith}
+use borrow.Author.Rules.{rules}
+use Rattle.metrics.specs.ListingLaws.{Sized, sized_none, sized_small, sized_next, sized_all}
+use Rattle.metrics.proofs.table.rows_end.Goals as goal
+
+pub cause-requires : goal.cause-requires
+cause-requires c =
+    c.requires.1 c.loop-j.j c.loop-j-test.true
+
+pub overflow_add-end : goal.overflow_add-end
+overflow_add-end c =
+    omega (arith, sized_small (omega (arith, c.requires.0, c.requires.2)) c.loop-j.invariant _ c.cause.ensures c.loop-j-test.true c.requires.0)
+
+pub overflow_add-end-in-loop-j : goal.overflow_add-end-in-loop-j
+overflow_add-end-in-loop-j c =
+    omega (arith, sized_small (omega (arith, c.requires.0, c.requires.2)) c.loop-j.invariant _ c.cause.ensures c.loop-j-test.true c.requires.0)
+
+pub loop-j-preserved : goal.loop-j-preserved
+loop-j-preserved c =
+    sized_next (omega (arith, c.requires.0, c.requires.2)) c.loop-j.invariant _ c.cause.ensures c.loop-j-test.true (omega arith)
+
+pub returns : goal.returns
+returns c =
+    sized_all (omega (arith, c.requires.0, c.requires.2)) c.loop-j.invariant (omega (arith, c.loop-j-test.false))
+
+pub loop-j-init : goal.loop-j-init
+loop-j-init c = sized_none
+
+pub offset_bounds-records-j : goal.offset_bounds-records-j
+offset_bounds-records-j c = omega (arith, c.loop-j-test.true, c.requires.0)
+
+pub bounds-records-j : goal.bounds-records-j
+bounds-records-j c = omega (arith, c.loop-j-test.true, c.requires.0)
