@@ -5,6 +5,8 @@
 // dispatch has one line for each operation. A raise and a clear are searched for here, along the active chain, and their steps are given
 // what was found (`raising::raise_at`, `state::clear_at`). A new operation is a line of the dispatch, one of `asks_record`, and a crate.
 // Next: specs/RoomLaws.antt, and the crate of the operation that you look for.
+#![tactic(auto)]
+
 ghost use Rattle.std.specs.Prelude.{◌≡◌, length};
 ghost use Rattle.octets.specs.Bytes.{Bytes};
 ghost use Rattle.definition.specs.Value.{op_of};

@@ -4,6 +4,8 @@
 // walk along its active chain gives the flags. The highest severity that waits, by flag and by mask, is found by a count of leading
 // zeros. The definition says all of this bit by bit (Panel.antt); specs/BitLaws.antt joins the two, and specs/FlagLaws.antt has the
 // walk. Next: `alarm_panel_look` and `alarm_panel_write` of crates/station, which check the register first.
+#![tactic(auto)]
+
 ghost use Rattle.std.specs.Prelude.{◌≡◌, cond, ◌<◌, T, eqb, length};
 ghost use Rattle.std.specs.Int.Bits.{bit_and};
 ghost use Rattle.definition.specs.Panel.{is_set, by_bits, highest as highest_bit, is_flagged, mask_of, in_mask};
