@@ -5,6 +5,8 @@
 // for every input, and these equations stand in the definition (Claim.antt), as what the theorems on lists of calls speak of: specs/Theorem.antt has
 // these, proofs/Promises.antt that the contracts here say just that. A new entry point is a crate of its own below this one, and a function here.
 // Next: crates/operations, which does the calls.
+#![tactic(auto)]
+
 ghost use Rattle.definition.specs.Claim.{OpenReturns, StepReturns};
 ghost use Rattle.definition.specs.Panel.{look, write, PanelReturns};
 ghost use Rattle.panel.specs.Meaning.{call_of};

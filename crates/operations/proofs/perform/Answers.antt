@@ -1,6 +1,9 @@
 -- `perform`: no room, 30; else the dispatch.
 use mathlib.Core.Path.{sym, ◌∙◌}
 use borrow.Author.Rules.{rules}
+use Rattle.std.proofs.Common.{ℕ, ◌≡◌, Bool, true, false, ◌&&◌, ltb}
+use Rattle.definition.specs.Value.{CallValue, op_of}
+use Rattle.definition.specs.Perform.{asks_record}
 use Rattle.call.specs.Meaning.{meaning}
 use Rattle.operations.specs.Meaning.{HasRoom}
 use Rattle.operations.specs.RoomLaws.{lacks, suffices, no_room, has_room}
@@ -13,13 +16,14 @@ returns-then-asks_record-lacks c =
     no_room (meaning c.args.call.now c.args.parsed) _ _ _ (sym (c.asks_record.ensures _) ∙ l.0) l.1
 
 -- the test was passed
-roomy : (c : goal.Else-asks_record-lacks) → HasRoom (meaning c.args.call.now c.args.parsed) (length c.args.answer.now)
-roomy c q = suffices c.asks_record.result _ c.if-asks_record-lacks.false (c.asks_record.ensures _ ∙ q)
+roomy : (v : CallValue) (n : ℕ) {x : Bool} → x ≡ asks_record (op_of v) → x && ltb n 1552 ≡ false → HasRoom v n
+roomy v n {x = x} w f q = suffices x n f (w ∙ q)
 
 pub dispatch-requires : goal.dispatch-requires
 dispatch-requires c =
-    (c.requires, roomy c)
+    record { called = c.requires; has_room = roomy (meaning c.args.call.now c.args.parsed) _ (c.asks_record.ensures _) c.if-asks_record-lacks.false }
 
 pub returns : goal.returns
 returns c =
-    has_room (meaning c.args.call.now c.args.parsed) _ c.dispatch.result _ _ _ _ (roomy c) c.dispatch.ensures
+    let v = meaning c.args.call.now c.args.parsed in
+    has_room v _ c.dispatch.result _ _ _ _ (roomy v _ (c.asks_record.ensures _) c.if-asks_record-lacks.false) c.dispatch.ensures
