@@ -3,20 +3,24 @@
 // tests/vectors/sha256.py`.
 //
 // The proof says that the code is the definition; this program holds both to the world outside.
-use libc::STDOUT_FILENO;
+#![tactic(auto)]
+
+use std::io;
+use std::io::Write;
 
 fn wide(x: u8) -> u64 {
     x as u64
 }
 
-fn show(message: &[u8]) {
+fn show<W: Write>(writer: &mut W, message: &[u8]) -> io::Result<()> {
     let d = sha256::sha256(message);
     let mut i = 0;
     while i < 32 {
-        io::print_hex(STDOUT_FILENO, wide(d[i]), 2);
+        let byte = wide(d[i]);
+        write!(writer, "{byte:02x}")?;
         i += 1;
     }
-    io::write_all(STDOUT_FILENO, b"\n");
+    writer.write_all(b"\n")
 }
 
 // Bytes of which byte i is 7 i + 3, modulo 256.
@@ -30,32 +34,38 @@ fn pattern() -> [u8; 300] {
     m
 }
 
-fn every_length() {
+fn every_length<W: Write>(writer: &mut W) -> io::Result<()> {
     let m = pattern();
     let mut n = 0;
     while n <= 300 {
-        show(&m[..n]);
+        show(writer, &m[..n])?;
         n += 1;
     }
+    Ok(())
 }
 
 // FIPS 180's messages of one and of two blocks, and NIST's of 112 bytes.
-fn published() {
-    show(b"abc");
-    show(b"abcdbcdecdefdefgefghfghighijhijkijkljklmklmnlmnomnopnopq");
+fn published<W: Write>(writer: &mut W) -> io::Result<()> {
+    show(writer, b"abc")?;
     show(
+        writer,
+        b"abcdbcdecdefdefgefghfghighijhijkijkljklmklmnlmnomnopnopq",
+    )?;
+    show(
+        writer,
         b"abcdefghbcdefghicdefghijdefghijkefghijklfghijklmghijklmnhijklmnoijklmnopjklmnopqklmnopqrlmnopqrsmnopqrstnopqrstu",
-    );
+    )
 }
 
 // NIST's long message.
-fn million() {
+fn million<W: Write>(writer: &mut W) -> io::Result<()> {
     let a = [b'a'; 1000000];
-    show(&a);
+    show(writer, &a)
 }
 
-fn main() {
-    every_length();
-    published();
-    million();
+fn main(rt: HostRuntime) -> io::Result<()> {
+    let mut writer = io::writer(&rt);
+    every_length(&mut writer)?;
+    published(&mut writer)?;
+    million(&mut writer)
 }
