@@ -6,291 +6,323 @@
 //
 // A line is a word for the operation and a word for each of its fields, in their order: a number, or a string's bytes in hex behind an x.
 // Nothing is claimed of what is written but that the program is safe and ends.
+#![tactic(auto)]
+
+ghost use Rattle.std.specs.Prelude.{◌≤◌, length, IfOk};
+
 use action_fields::{Plain, Policy, Scope};
 use call::Parsed;
-use libc::{STDIN_FILENO, STDOUT_FILENO};
 use model::{Action, AffectedObject, CauseSpan, Deed, KeyFields, OptSpan, Places, Span};
 use raise_fields::{Clear, Raise};
+use std::io;
+use std::io::{Read, Write};
 
 // ---- the words of a line: a blank, and a number or a string
 
-fn say(text: &[u8]) {
-    io::write_all(STDOUT_FILENO, text);
+fn say<W: Write>(writer: &mut W, text: &[u8]) -> io::Result<()> {
+    writer.write_all(text)
 }
 
-fn show_number(n: u64) {
-    say(b" ");
-    io::print_decimal(STDOUT_FILENO, n);
+fn show_number<W: Write>(writer: &mut W, n: u64) -> io::Result<()> {
+    write!(writer, " {n}")
 }
 
 // The word of an operation; 0 stands for a refusal.
-fn say_operation(op: u8) {
+fn say_operation<W: Write>(writer: &mut W, op: u8) -> io::Result<()> {
     match op {
-        1 => say(b"raise"),
-        2 => say(b"clear"),
-        3 => say(b"acknowledge"),
-        4 => say(b"suppress"),
-        5 => say(b"acknowledge-policy"),
-        6 => say(b"suppress-policy"),
-        7 => say(b"expire"),
-        8 => say(b"active"),
-        9 => say(b"history"),
-        10 => say(b"counts"),
-        11 => say(b"summary"),
-        12 => say(b"take-audit"),
-        13 => say(b"suppress-until"),
-        14 => say(b"lift"),
-        _ => say(b"refused"),
+        1 => say(writer, b"raise"),
+        2 => say(writer, b"clear"),
+        3 => say(writer, b"acknowledge"),
+        4 => say(writer, b"suppress"),
+        5 => say(writer, b"acknowledge-policy"),
+        6 => say(writer, b"suppress-policy"),
+        7 => say(writer, b"expire"),
+        8 => say(writer, b"active"),
+        9 => say(writer, b"history"),
+        10 => say(writer, b"counts"),
+        11 => say(writer, b"summary"),
+        12 => say(writer, b"take-audit"),
+        13 => say(writer, b"suppress-until"),
+        14 => say(writer, b"lift"),
+        _ => say(writer, b"refused"),
     }
 }
 
 // The word of an action, which one of two operations does.
-fn say_action(action: Action, acknowledge: u8, suppress: u8) {
+fn say_action<W: Write>(
+    writer: &mut W,
+    action: Action,
+    acknowledge: u8,
+    suppress: u8,
+) -> io::Result<()> {
     match action {
-        Action::Acknowledge => say_operation(acknowledge),
-        Action::Suppress => say_operation(suppress),
+        Action::Acknowledge => say_operation(writer, acknowledge),
+        Action::Suppress => say_operation(writer, suppress),
     }
 }
 
-fn show_numbered(op: u8, n: u64) {
-    say_operation(op);
-    show_number(n);
+fn show_numbered<W: Write>(writer: &mut W, op: u8, n: u64) -> io::Result<()> {
+    say_operation(writer, op)?;
+    show_number(writer, n)
 }
 
 fn wide(x: u8) -> u64 {
     x as u64
 }
 
-fn show_hex(s: &[u8]) {
+fn show_hex<W: Write>(writer: &mut W, s: &[u8]) -> io::Result<()> {
     let mut i = 0;
     while i < s.len() {
-        io::print_hex(STDOUT_FILENO, wide(s[i]), 2);
+        let byte = wide(s[i]);
+        write!(writer, "{byte:02x}")?;
         i += 1;
     }
+    Ok(())
 }
 
 // The n bytes of s from a on, or what stands in no expected line.
-fn show_bytes(s: &[u8], a: usize, n: usize) {
+fn show_bytes<W: Write>(writer: &mut W, s: &[u8], a: usize, n: usize) -> io::Result<()> {
     if s.len() < a {
-        say(b"outside");
-        return;
+        return say(writer, b"outside");
     }
     if s.len() - a < n {
-        say(b"outside");
-        return;
+        return say(writer, b"outside");
     }
     let e = a + n;
-    show_hex(&s[a..e]);
+    show_hex(writer, &s[a..e])
 }
 
-fn show_string(call: &[u8], p: Span) {
-    say(b" x");
-    show_bytes(call, p.at, p.len);
+fn show_string<W: Write>(writer: &mut W, call: &[u8], p: Span) -> io::Result<()> {
+    say(writer, b" x")?;
+    show_bytes(writer, call, p.at, p.len)
 }
 
-fn show_option(call: &[u8], o: OptSpan) {
+fn show_option<W: Write>(writer: &mut W, call: &[u8], o: OptSpan) -> io::Result<()> {
     match o {
-        OptSpan::Absent => say(b" -"),
-        OptSpan::Present(p) => show_string(call, p),
+        OptSpan::Absent => say(writer, b" -"),
+        OptSpan::Present(p) => show_string(writer, call, p),
     }
 }
 
 // The cause name at k.
-fn show_name(k: usize) {
+fn show_name<W: Write>(writer: &mut W, k: usize) -> io::Result<()> {
     if k >= 21 {
-        say(b"outside");
-        return;
+        return say(writer, b"outside");
     }
     let mut buf = [0u8; 28];
     let n = cause::put_name(&mut buf, 0, k);
-    show_bytes(&buf, 0, n);
+    show_bytes(writer, &buf, 0, n)
 }
 
 // A cause in its stored form.
-fn show_cause(call: &[u8], c: CauseSpan) {
-    say(b" x");
+fn show_cause<W: Write>(writer: &mut W, call: &[u8], c: CauseSpan) -> io::Result<()> {
+    say(writer, b" x")?;
     match c {
-        CauseSpan::Name(k) => show_name(k),
+        CauseSpan::Name(k) => show_name(writer, k),
         CauseSpan::Other(p) => {
-            show_hex(b"other:");
-            show_bytes(call, p.at, p.len);
+            show_hex(writer, b"other:")?;
+            show_bytes(writer, call, p.at, p.len)
         }
     }
 }
 
-fn show_pair(call: &[u8], kind: u64, a: Span, b: Span) {
-    show_number(kind);
-    show_string(call, a);
-    show_string(call, b);
+fn show_pair<W: Write>(writer: &mut W, call: &[u8], kind: u64, a: Span, b: Span) -> io::Result<()> {
+    show_number(writer, kind)?;
+    show_string(writer, call, a)?;
+    show_string(writer, call, b)
 }
 
-fn show_single(call: &[u8], kind: u64, a: Span) {
-    show_number(kind);
-    show_string(call, a);
+fn show_single<W: Write>(writer: &mut W, call: &[u8], kind: u64, a: Span) -> io::Result<()> {
+    show_number(writer, kind)?;
+    show_string(writer, call, a)
 }
 
 // An object: its kind, its strings, its queue.
-fn show_object(call: &[u8], o: AffectedObject) {
+fn show_object<W: Write>(writer: &mut W, call: &[u8], o: AffectedObject) -> io::Result<()> {
     match o {
-        AffectedObject::NfInstance { kind, instance } => show_pair(call, 1, kind, instance),
-        AffectedObject::Interface { nf, name } => show_pair(call, 2, nf, name),
-        AffectedObject::Peer { nf, peer_id } => show_pair(call, 3, nf, peer_id),
+        AffectedObject::NfInstance { kind, instance } => show_pair(writer, call, 1, kind, instance),
+        AffectedObject::Interface { nf, name } => show_pair(writer, call, 2, nf, name),
+        AffectedObject::Peer { nf, peer_id } => show_pair(writer, call, 3, nf, peer_id),
         AffectedObject::SessionStore { nf, shard } => {
-            show_single(call, 4, nf);
-            show_option(call, shard);
+            show_single(writer, call, 4, nf)?;
+            show_option(writer, call, shard)
         }
-        AffectedObject::Slice { snssai } => show_single(call, 5, snssai),
-        AffectedObject::Tenant { tenant } => show_single(call, 6, tenant),
-        AffectedObject::Certificate { key_id } => show_single(call, 7, key_id),
+        AffectedObject::Slice { snssai } => show_single(writer, call, 5, snssai),
+        AffectedObject::Tenant { tenant } => show_single(writer, call, 6, tenant),
+        AffectedObject::Certificate { key_id } => show_single(writer, call, 7, key_id),
         AffectedObject::DataPlaneQueue {
             nf,
             interface,
             queue,
         } => {
-            show_pair(call, 8, nf, interface);
-            show_number(queue as u64);
+            show_pair(writer, call, 8, nf, interface)?;
+            show_number(writer, queue as u64)
         }
     }
 }
 
-fn show_places(call: &[u8], p: Places) {
+fn show_places<W: Write>(writer: &mut W, call: &[u8], p: Places) -> io::Result<()> {
     let tenant = p.tenant;
     let slice = p.slice;
     let region = p.region;
-    show_option(call, tenant);
-    show_option(call, slice);
-    show_option(call, region);
+    show_option(writer, call, tenant)?;
+    show_option(writer, call, slice)?;
+    show_option(writer, call, region)
 }
 
-fn show_key(call: &[u8], k: KeyFields) {
+fn show_key<W: Write>(writer: &mut W, call: &[u8], k: KeyFields) -> io::Result<()> {
     let c = k.cause;
     let o = k.object;
     let p = k.places;
-    show_cause(call, c);
-    show_object(call, o);
-    show_places(call, p);
+    show_cause(writer, call, c)?;
+    show_object(writer, call, o)?;
+    show_places(writer, call, p)
 }
 
 // ---- an operation: its name and its fields
 
-fn show_raise(call: &[u8], r: Raise) {
+fn show_raise<W: Write>(writer: &mut W, call: &[u8], r: Raise) -> io::Result<()> {
     let h = r.head;
     let k = r.key;
     let d = r.details;
-    say_operation(1);
-    show_number(h.time);
-    show_string(call, h.id);
-    show_string(call, h.alarm_type);
-    show_number(h.severity as u64);
-    show_key(call, k);
-    show_string(call, r.text);
-    show_option(call, d);
+    say_operation(writer, 1)?;
+    show_number(writer, h.time)?;
+    show_string(writer, call, h.id)?;
+    show_string(writer, call, h.alarm_type)?;
+    show_number(writer, h.severity as u64)?;
+    show_key(writer, call, k)?;
+    show_string(writer, call, r.text)?;
+    show_option(writer, call, d)
 }
 
-fn show_clear(call: &[u8], c: Clear) {
+fn show_clear<W: Write>(writer: &mut W, call: &[u8], c: Clear) -> io::Result<()> {
     let k = c.key;
-    say_operation(2);
-    show_number(c.time);
-    show_string(call, c.alarm_type);
-    show_key(call, k);
+    say_operation(writer, 2)?;
+    show_number(writer, c.time)?;
+    show_string(writer, call, c.alarm_type)?;
+    show_key(writer, call, k)
 }
 
-fn show_plain(call: &[u8], action: Action, p: Plain) {
-    say_action(action, 3, 4);
-    show_number(p.time);
-    show_string(call, p.id);
-    show_number(p.authorised as u64);
+fn show_plain<W: Write>(writer: &mut W, call: &[u8], action: Action, p: Plain) -> io::Result<()> {
+    say_action(writer, action, 3, 4)?;
+    show_number(writer, p.time)?;
+    show_string(writer, call, p.id)?;
+    show_number(writer, p.authorised as u64)
 }
 
-fn show_scope(call: &[u8], s: Scope) {
+fn show_scope<W: Write>(writer: &mut W, call: &[u8], s: Scope) -> io::Result<()> {
     match s {
-        Scope::Alarm(p) => show_single(call, 0, p),
-        Scope::Tenant(p) => show_single(call, 1, p),
-        Scope::Global => show_number(2),
+        Scope::Alarm(p) => show_single(writer, call, 0, p),
+        Scope::Tenant(p) => show_single(writer, call, 1, p),
+        Scope::Global => show_number(writer, 2),
     }
 }
 
 // The word of a policy call, its time, and behind it the end that operation 13 has.
-fn show_deed(deed: Deed, time: u64) {
+fn show_deed<W: Write>(writer: &mut W, deed: Deed, time: u64) -> io::Result<()> {
     match deed {
         Deed::Untimed(action) => {
-            say_action(action, 5, 6);
-            show_number(time);
+            say_action(writer, action, 5, 6)?;
+            show_number(writer, time)
         }
         Deed::Until(end) => {
-            show_numbered(13, time);
-            show_number(end);
+            show_numbered(writer, 13, time)?;
+            show_number(writer, end)
         }
     }
 }
 
-fn show_policy(call: &[u8], deed: Deed, p: Policy) {
+fn show_policy<W: Write>(writer: &mut W, call: &[u8], deed: Deed, p: Policy) -> io::Result<()> {
     let a = p.actor;
     let r = p.request;
     let v = p.verdict;
     let tenant = a.tenant;
     let scope = r.scope;
     let correlation = r.correlation;
-    show_deed(deed, a.time);
-    show_string(call, a.id);
-    show_string(call, a.principal);
-    show_option(call, tenant);
-    show_string(call, r.reason);
-    show_scope(call, scope);
-    show_option(call, correlation);
-    show_number(v.critical_allowed as u64);
-    show_number(v.authorised as u64);
-    show_string(call, v.denial);
+    show_deed(writer, deed, a.time)?;
+    show_string(writer, call, a.id)?;
+    show_string(writer, call, a.principal)?;
+    show_option(writer, call, tenant)?;
+    show_string(writer, call, r.reason)?;
+    show_scope(writer, call, scope)?;
+    show_option(writer, call, correlation)?;
+    show_number(writer, v.critical_allowed as u64)?;
+    show_number(writer, v.authorised as u64)?;
+    show_string(writer, call, v.denial)
 }
 
-fn show_history(call: &[u8], tenant: OptSpan, slice: OptSpan) {
-    say_operation(9);
-    show_option(call, tenant);
-    show_option(call, slice);
+fn show_history<W: Write>(
+    writer: &mut W,
+    call: &[u8],
+    tenant: OptSpan,
+    slice: OptSpan,
+) -> io::Result<()> {
+    say_operation(writer, 9)?;
+    show_option(writer, call, tenant)?;
+    show_option(writer, call, slice)
 }
 
 // ---- calls
 
-fn show(call: &[u8]) {
+fn show<W: Write>(writer: &mut W, call: &[u8]) -> io::Result<()> {
     match call::parse(call) {
-        Parsed::Raise(r) => show_raise(call, r),
-        Parsed::Clear(c) => show_clear(call, c),
-        Parsed::Plain(action, p) => show_plain(call, action, p),
-        Parsed::Policy(deed, p) => show_policy(call, deed, p),
-        Parsed::Expire(t) => show_numbered(7, t),
-        Parsed::Active(v) => show_numbered(8, v as u64),
-        Parsed::History { tenant, slice } => show_history(call, tenant, slice),
-        Parsed::Counts => say_operation(10),
-        Parsed::Summary => say_operation(11),
-        Parsed::TakeAudit(n) => show_numbered(12, n as u64),
-        Parsed::Lift(t) => show_numbered(14, t),
-        Parsed::Refused(k) => show_numbered(0, k as u64),
+        Parsed::Raise(r) => show_raise(writer, call, r),
+        Parsed::Clear(c) => show_clear(writer, call, c),
+        Parsed::Plain(action, p) => show_plain(writer, call, action, p),
+        Parsed::Policy(deed, p) => show_policy(writer, call, deed, p),
+        Parsed::Expire(t) => show_numbered(writer, 7, t),
+        Parsed::Active(v) => show_numbered(writer, 8, v as u64),
+        Parsed::History { tenant, slice } => show_history(writer, call, tenant, slice),
+        Parsed::Counts => say_operation(writer, 10),
+        Parsed::Summary => say_operation(writer, 11),
+        Parsed::TakeAudit(n) => show_numbered(writer, 12, n as u64),
+        Parsed::Lift(t) => show_numbered(writer, 14, t),
+        Parsed::Refused(k) => show_numbered(writer, 0, k as u64),
     }
+}
+
+// Reads until buf is full or the input ends, and says how many bytes came to its front.
+fn read_full<R: Read>(reader: &mut R, buf: &mut [u8]) -> io::Result<usize>
+    ensures { IfOk result (λ n. n ≤ length buf.new) }
+{
+    let mut done = 0;
+    while done < buf.len() {
+        let n = reader.read(&mut buf[done..])?;
+        if n == 0 {
+            break;
+        }
+        done += n;
+    }
+    Ok(done)
 }
 
 // The next call's bytes come to the front of buf, and its line goes out. Says whether there was a call that fits.
-fn next(buf: &mut [u8]) -> bool {
+fn next<R: Read, W: Write>(reader: &mut R, writer: &mut W, buf: &mut [u8]) -> io::Result<bool> {
     let mut head = [0u8; 4];
-    if io::read_full(STDIN_FILENO, &mut head) < 4 {
-        return false;
+    if read_full(reader, &mut head)? < 4 {
+        return Ok(false);
     }
     let n = octets::number(&head) as usize;
     if buf.len() < n {
-        return false;
+        return Ok(false);
     }
-    if io::read_full(STDIN_FILENO, &mut buf[..n]) < n {
-        return false;
+    if read_full(reader, &mut buf[..n])? < n {
+        return Ok(false);
     }
-    show(&buf[..n]);
-    say(b"\n");
-    true
+    show(writer, &buf[..n])?;
+    say(writer, b"\n")?;
+    Ok(true)
 }
 
-// A proved loop ends, and nothing says that the input does: the turns are counted down from a number that no run uses up.
-fn main() {
-    let mut buf = io::buffer();
-    let mut turns = u64::MAX;
-    while turns > 0 && next(&mut buf) {
-        turns -= 1;
+// A proved loop ends, and nothing says that the input does: the turns are counted to a number that no run uses up.
+fn main(rt: HostRuntime) -> io::Result<()> {
+    let mut reader = rt.reader();
+    let mut writer = io::writer(&rt);
+    let mut buf = [0u8; 4096];
+    for _ in 0..u64::MAX {
+        if !next(&mut reader, &mut writer, &mut buf)? {
+            break;
+        }
     }
+    Ok(())
 }
