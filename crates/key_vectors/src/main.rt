@@ -4,12 +4,15 @@
 // gives the same. The expected output, the file `stdout`, is made by it: `python3 tests/vectors/key.py`. Strings are parts of 256 letters,
 // empty, short and as long as their limits allow, so that the buffer of what is hashed is filled as far as it can be.
 // specs/Vectors.antt says what the fields handed about keep to.
+#![tactic(auto)]
+
 ghost use Rattle.std.specs.Prelude.{◌≡◌, length};
 ghost use Rattle.model.specs.Meaning.{object_within};
 ghost use Rattle.key_vectors.specs.Vectors.{Fit};
 
-use libc::STDOUT_FILENO;
 use model::{AffectedObject, CauseSpan, KeyFields, OptSpan, Places, Span};
+use std::io;
+use std::io::Write;
 
 // The letters a to z, over and over.
 fn letters() -> [u8; 256] {
@@ -23,7 +26,14 @@ fn letters() -> [u8; 256] {
 }
 
 // The key of a type of n bytes with these fields.
-fn show(call: &[u8], n: usize, cause: CauseSpan, object: AffectedObject, places: Places)
+fn show<W: Write>(
+    writer: &mut W,
+    call: &[u8],
+    n: usize,
+    cause: CauseSpan,
+    object: AffectedObject,
+    places: Places,
+) -> io::Result<()>
     requires { Fit call.now n cause places × object_within call.now object }
 {
     let t = Span { at: 130, len: n };
@@ -35,11 +45,17 @@ fn show(call: &[u8], n: usize, cause: CauseSpan, object: AffectedObject, places:
     let key = key::key_of(call, t, fields);
     let mut line = [10u8; 33];
     key::put_hex(&mut line, 0, &key);
-    io::write_all(STDOUT_FILENO, &line);
+    writer.write_all(&line)
 }
 
 // Kinds 1 to 4, with strings of n bytes; kind 4 without a shard and with one.
-fn first_kinds(call: &[u8], n: usize, cause: CauseSpan, places: Places)
+fn first_kinds<W: Write>(
+    writer: &mut W,
+    call: &[u8],
+    n: usize,
+    cause: CauseSpan,
+    places: Places,
+) -> io::Result<()>
     requires { Fit call.now n cause places }
 {
     let nf = Span { at: 3, len: n };
@@ -48,41 +64,49 @@ fn first_kinds(call: &[u8], n: usize, cause: CauseSpan, places: Places)
         kind: nf,
         instance: name,
     };
-    show(call, n, cause, instance, places);
+    show(writer, call, n, cause, instance, places)?;
     let interface = AffectedObject::Interface { nf, name };
-    show(call, n, cause, interface, places);
+    show(writer, call, n, cause, interface, places)?;
     let peer = AffectedObject::Peer { nf, peer_id: name };
-    show(call, n, cause, peer, places);
+    show(writer, call, n, cause, peer, places)?;
     let shard = OptSpan::Absent;
     let store = AffectedObject::SessionStore { nf, shard };
-    show(call, n, cause, store, places);
+    show(writer, call, n, cause, store, places)?;
     let named = OptSpan::Present(name);
     let part = AffectedObject::SessionStore { nf, shard: named };
-    show(call, n, cause, part, places);
+    show(writer, call, n, cause, part, places)
 }
 
 // Kinds 5 to 8.
-fn last_kinds(call: &[u8], n: usize, queue: u16, cause: CauseSpan, places: Places)
+fn last_kinds<W: Write>(
+    writer: &mut W,
+    call: &[u8],
+    n: usize,
+    queue: u16,
+    cause: CauseSpan,
+    places: Places,
+) -> io::Result<()>
     requires { Fit call.now n cause places }
 {
     let nf = Span { at: 3, len: n };
     let interface = Span { at: 70, len: n };
     let slice = AffectedObject::Slice { snssai: nf };
-    show(call, n, cause, slice, places);
+    show(writer, call, n, cause, slice, places)?;
     let tenant = AffectedObject::Tenant { tenant: nf };
-    show(call, n, cause, tenant, places);
+    show(writer, call, n, cause, tenant, places)?;
     let certificate = AffectedObject::Certificate { key_id: nf };
-    show(call, n, cause, certificate, places);
+    show(writer, call, n, cause, certificate, places)?;
     let line = AffectedObject::DataPlaneQueue {
         nf,
         interface,
         queue,
     };
-    show(call, n, cause, line, places);
+    show(writer, call, n, cause, line, places)
 }
 
 // All kinds, with tenant, slice and region.
-fn kinds(
+fn kinds<W: Write>(
+    writer: &mut W,
     call: &[u8],
     n: usize,
     queue: u16,
@@ -90,7 +114,7 @@ fn kinds(
     tenant: OptSpan,
     slice: OptSpan,
     region: OptSpan,
-)
+) -> io::Result<()>
     requires { Fit call.now n cause (record { tenant = tenant; slice = slice; region = region }) }
 {
     let places = Places {
@@ -98,12 +122,12 @@ fn kinds(
         slice,
         region,
     };
-    first_kinds(call, n, cause, places);
-    last_kinds(call, n, queue, cause, places);
+    first_kinds(writer, call, n, cause, places)?;
+    last_kinds(writer, call, n, queue, cause, places)
 }
 
 // Strings empty, short and of their longest; queues of one to five digits; options absent, empty and of their longest.
-fn objects(call: &[u8])
+fn objects<W: Write>(writer: &mut W, call: &[u8]) -> io::Result<()>
     requires { length call.now ≡ 256 }
 {
     let none = OptSpan::Absent;
@@ -112,16 +136,17 @@ fn objects(call: &[u8])
     let region = OptSpan::Present(Span { at: 128, len: 128 });
     let other = CauseSpan::Other(Span { at: 40, len: 3 });
     let longest = CauseSpan::Other(Span { at: 40, len: 90 });
-    kinds(call, 0, 0, CauseSpan::Name(7), none, none, none);
-    kinds(call, 1, 9, CauseSpan::Name(5), empty, none, none);
-    kinds(call, 5, 10, other, none, empty, none);
-    kinds(call, 63, 999, CauseSpan::Name(20), none, none, empty);
-    kinds(call, 9, 1000, other, long, none, region);
-    kinds(call, 64, 65535, longest, long, long, region);
+    let last_name = CauseSpan::Name(20);
+    kinds(writer, call, 0, 0, CauseSpan::Name(7), none, none, none)?;
+    kinds(writer, call, 1, 9, CauseSpan::Name(5), empty, none, none)?;
+    kinds(writer, call, 5, 10, other, none, empty, none)?;
+    kinds(writer, call, 63, 999, last_name, none, none, empty)?;
+    kinds(writer, call, 9, 1000, other, long, none, region)?;
+    kinds(writer, call, 64, 65535, longest, long, long, region)
 }
 
 // Every cause name.
-fn causes(call: &[u8])
+fn causes<W: Write>(writer: &mut W, call: &[u8]) -> io::Result<()>
     requires { length call.now ≡ 256 }
 {
     let none = OptSpan::Absent;
@@ -134,13 +159,15 @@ fn causes(call: &[u8])
     let object = AffectedObject::Tenant { tenant };
     let mut k = 0;
     while k < 21 {
-        show(call, 1, CauseSpan::Name(k), object, places);
+        show(writer, call, 1, CauseSpan::Name(k), object, places)?;
         k += 1;
     }
+    Ok(())
 }
 
-fn main() {
+fn main(rt: HostRuntime) -> io::Result<()> {
+    let mut writer = io::writer(&rt);
     let call = letters();
-    objects(&call);
-    causes(&call);
+    objects(&mut writer, &call)?;
+    causes(&mut writer, &call)
 }
