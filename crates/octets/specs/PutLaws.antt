@@ -1,5 +1,5 @@
 -- Laws of what is put into a slice, one behind the other.
-use Rattle.std.specs.Prelude.{◌≡◌, refl, ◌++◌, ℕ, ◌+◌, length, take}
+use Rattle.std.specs.Prelude.{◌≡◌, refl, ◌++◌, ℕ, length, take}
 use Rattle.std.proofs.Common.{ap, subst, ◌∙◌, arith, length-append}
 use Rattle.octets.specs.Bytes.{Bytes, splice}
 use Rattle.octets.specs.SpliceLaws.{length_splice, splice_two, part_splice}

@@ -1,7 +1,6 @@
 -- Id, principal and tenant, behind the time.
 use Rattle.definition.specs.Parse.{actor}
 use Rattle.fields.specs.CursorLaws.{done, step}
-use borrow.Author.Rules.{rules}
 use Rattle.action_fields.proofs.actor_at.Goals as goal
 
 pub returns : goal.returns

@@ -1,7 +1,6 @@
 -- Time, id and whether it is authorised.
 use Rattle.definition.specs.Parse.{plain_fields}
 use Rattle.fields.specs.CursorLaws.{done, step}
-use borrow.Author.Rules.{rules}
 use Rattle.action_fields.proofs.plain_at.Goals as goal
 
 pub returns : goal.returns

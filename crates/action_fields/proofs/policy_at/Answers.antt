@@ -1,7 +1,6 @@
 -- The time, and the fields behind it.
 use Rattle.definition.specs.Parse.{policy_fields}
 use Rattle.fields.specs.CursorLaws.{step}
-use borrow.Author.Rules.{rules}
 use Rattle.action_fields.proofs.policy_at.Goals as goal
 
 pub returns : goal.returns

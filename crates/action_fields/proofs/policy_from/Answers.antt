@@ -1,7 +1,6 @@
 -- Actor, request and verdict.
 use Rattle.definition.specs.Parse.{policy_from}
 use Rattle.fields.specs.CursorLaws.{done, step}
-use borrow.Author.Rules.{rules}
 use Rattle.action_fields.proofs.policy_from.Goals as goal
 
 pub returns : goal.returns

@@ -1,7 +1,6 @@
 -- Reason, scope and correlation.
 use Rattle.definition.specs.Parse.{request}
 use Rattle.fields.specs.CursorLaws.{done, step}
-use borrow.Author.Rules.{rules}
 use Rattle.action_fields.proofs.request_at.Goals as goal
 
 pub returns : goal.returns

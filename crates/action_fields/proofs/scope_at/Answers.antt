@@ -2,7 +2,6 @@
 use Rattle.definition.specs.Parse.{scope_of, scope}
 use Rattle.fields.specs.CursorLaws.{done, step, becomes}
 use borrow.Author.Tests.{ne_eqb}
-use borrow.Author.Rules.{rules}
 use Rattle.action_fields.proofs.scope_at.Goals as goal
 
 pub returns-in-0 : goal.returns-in-0

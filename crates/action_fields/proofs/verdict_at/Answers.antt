@@ -1,7 +1,6 @@
 -- Two flags and the denial message.
 use Rattle.definition.specs.Parse.{verdict}
 use Rattle.fields.specs.CursorLaws.{done, step}
-use borrow.Author.Rules.{rules}
 use Rattle.action_fields.proofs.verdict_at.Goals as goal
 
 pub returns : goal.returns

@@ -3,7 +3,6 @@ use mathlib.Core.Path.{refl}
 use native.Mathlib.Omega.{arith}
 use Rattle.octets.specs.NumberLaws.{length_be32}
 use Rattle.answers.proofs.Parts.{part, part_to, ◌then◌}
-use borrow.Author.Rules.{rules}
 use Rattle.answers.proofs.put_count.Goals as goal
 
 pub returns : goal.returns

@@ -4,7 +4,6 @@ use native.Mathlib.Omega.{arith}
 use Rattle.octets.specs.Bytes.{zeros}
 use Rattle.octets.specs.NumberLaws.{length_digits}
 use Rattle.answers.proofs.Parts.{part, ◌then◌}
-use borrow.Author.Rules.{rules}
 use Rattle.answers.proofs.put_head.Goals as goal
 
 pub returns : goal.returns

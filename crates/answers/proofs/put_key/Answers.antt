@@ -4,7 +4,6 @@ use Rattle.definition.specs.Answer.{head}
 use Rattle.definition.proofs.Laws.Text.Key.{length_hex}
 use Rattle.definition.proofs.Laws.Steps.Answers.{length_head}
 use Rattle.answers.proofs.Parts.{part_to, ◌then◌}
-use borrow.Author.Rules.{rules}
 use Rattle.answers.proofs.put_key.Goals as goal
 
 pub put_hex-requires : goal.put_hex-requires

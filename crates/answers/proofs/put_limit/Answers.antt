@@ -3,7 +3,6 @@ use mathlib.Core.Path.{refl}
 use Rattle.octets.specs.PutLaws.{put_as}
 use Rattle.definition.specs.Answer.{ActiveLimitExceeded}
 use Rattle.answers.specs.AnswerLaws.{answer_as}
-use borrow.Author.Rules.{rules}
 use Rattle.answers.proofs.put_limit.Goals as goal
 
 pub returns : goal.returns

@@ -3,7 +3,6 @@ use mathlib.Core.Path.{sym}
 use mathlib.Core.List.{append-nil}
 use Rattle.octets.specs.PutLaws.{put_as}
 use Rattle.definition.specs.Answer.{head, head_bytes}
-use borrow.Author.Rules.{rules}
 use Rattle.answers.proofs.put_number.Goals as goal
 
 pub returns : goal.returns

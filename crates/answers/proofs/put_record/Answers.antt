@@ -2,7 +2,6 @@
 use native.Mathlib.Omega.{arith}
 use Rattle.octets.specs.NumberLaws.{length_be32}
 use Rattle.answers.proofs.Parts.{part, part_to, ◌then◌}
-use borrow.Author.Rules.{rules}
 use Rattle.answers.proofs.put_record.Goals as goal
 
 pub returns : goal.returns

@@ -7,7 +7,6 @@ use Rattle.definition.specs.Answer.{Summary, head}
 use Rattle.definition.proofs.Laws.Steps.Answers.{length_head}
 use Rattle.answers.specs.AnswerLaws.{answer_as}
 use Rattle.answers.proofs.Parts.{part, ◌then◌}
-use borrow.Author.Rules.{rules}
 use Rattle.answers.proofs.put_summary.Goals as goal
 
 pub returns : goal.returns

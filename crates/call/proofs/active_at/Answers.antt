@@ -1,7 +1,6 @@
 -- A byte, and what it may be.
 use Rattle.definition.specs.Parse.{severity_or_all}
 use Rattle.fields.specs.CursorLaws.{done, step, tested, becomes}
-use borrow.Author.Rules.{rules}
 use Rattle.call.proofs.active_at.Goals as goal
 
 pub returns : goal.returns

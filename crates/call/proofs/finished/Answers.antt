@@ -1,7 +1,6 @@
 -- A fault, bytes that are left over, or none.
 use mathlib.Core.Path.{sym}
 use Rattle.call.specs.WholeLaws.{whole_left, whole_end}
-use borrow.Author.Rules.{rules}
 use Rattle.call.proofs.finished.Goals as goal
 
 pub returns-then-i-call : goal.returns-then-i-call

@@ -1,7 +1,6 @@
 -- Tenant and slice.
 use Rattle.definition.specs.Parse.{history_fields}
 use Rattle.fields.specs.CursorLaws.{done, step}
-use borrow.Author.Rules.{rules}
 use Rattle.call.proofs.history_at.Goals as goal
 
 pub returns : goal.returns

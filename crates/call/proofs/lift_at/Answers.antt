@@ -1,6 +1,5 @@
 -- The cutoff time becomes a call.
 use Rattle.fields.specs.CursorLaws.{becomes}
-use borrow.Author.Rules.{rules}
 use Rattle.call.proofs.lift_at.Goals as goal
 
 pub returns : goal.returns

@@ -3,7 +3,6 @@ use mathlib.Core.Bool.{false}
 use Rattle.definition.specs.Parse.{fields_of}
 use Rattle.fields.specs.CursorLaws.{done, tested}
 use borrow.Author.Tests.{ne_eqb}
-use borrow.Author.Rules.{rules}
 use Rattle.call.proofs.operation_at.Goals as goal
 
 -- no operation

@@ -3,7 +3,6 @@ use mathlib.Core.Path.{sym, ap, ◌∙◌}
 use native.Mathlib.Omega.{arith}
 use Rattle.definition.specs.Parse.{whole}
 use Rattle.call.specs.WholeLaws.{parse_empty, parse_is}
-use borrow.Author.Rules.{rules}
 use Rattle.call.proofs.parse.Goals as goal
 
 pub returns-then-call-eq0 : goal.returns-then-call-eq0

@@ -1,6 +1,5 @@
 -- The fields of an action with policy become a call.
 use Rattle.fields.specs.CursorLaws.{becomes}
-use borrow.Author.Rules.{rules}
 use Rattle.call.proofs.policy_at.Goals as goal
 
 pub returns : goal.returns

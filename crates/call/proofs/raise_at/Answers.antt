@@ -1,6 +1,5 @@
 -- The fields of a raise become a call.
 use Rattle.fields.specs.CursorLaws.{becomes}
-use borrow.Author.Rules.{rules}
 use Rattle.call.proofs.raise_at.Goals as goal
 
 pub returns : goal.returns

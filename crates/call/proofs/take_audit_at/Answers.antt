@@ -1,6 +1,5 @@
 -- The number of events becomes a call.
 use Rattle.fields.specs.CursorLaws.{becomes}
-use borrow.Author.Rules.{rules}
 use Rattle.call.proofs.take_audit_at.Goals as goal
 
 pub returns : goal.returns

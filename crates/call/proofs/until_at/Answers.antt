@@ -1,7 +1,6 @@
 -- Two times, and the fields behind them.
 use Rattle.definition.specs.Parse.{until_fields}
 use Rattle.fields.specs.CursorLaws.{done, step}
-use borrow.Author.Rules.{rules}
 use Rattle.call.proofs.until_at.Goals as goal
 
 pub returns : goal.returns

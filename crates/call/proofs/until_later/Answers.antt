@@ -1,5 +1,4 @@
 -- The test is the definition's.
-use borrow.Author.Rules.{rules}
 use Rattle.call.proofs.until_later.Goals as goal
 
 pub returns-then-is_before : goal.returns-then-is_before

@@ -1,6 +1,5 @@
 -- A name, or what stands behind `other:`.
 use Rattle.cause.proofs.Ways.{name_yes, found}
-use borrow.Author.Rules.{rules}
 use Rattle.cause.proofs.cause_of.Goals as goal
 
 pub other-requires : goal.other-requires

@@ -1,11 +1,9 @@
 -- The bytes left are scanned with what is known of those passed.
-use mathlib.Core.Path.{◌≡◌, ◌∙◌, sym, ap}
+use mathlib.Core.Path.{◌∙◌, sym, ap}
 use mathlib.Core.Bool.{Bool, true, false, ◌&&◌}
-use Prim.Native.Nat.{◌+◌, ◌-◌, ◌≤◌}
+use Prim.Native.Nat.{◌+◌}
 use native.Mathlib.Omega.{arith}
-use borrow.Author.Tests.{not-true, not-false}
-use lib.ListN.{length, drop}
-use Rattle.definition.specs.Cause.{dotted}
+use lib.ListN.{drop}
 use Rattle.cause.proofs.Dotted.{scan, scan_dotted, scan_dot, scan_plain, scan_space, scan_end}
 use borrow.Author.Rules.{rules}
 use Rattle.cause.proofs.is_dotted.Goals as goal

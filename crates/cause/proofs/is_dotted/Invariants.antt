@@ -1,13 +1,9 @@
 -- The bytes left are scanned with what is known of those passed.
-use mathlib.Core.Path.{◌≡◌, ◌∙◌, sym, ap}
-use mathlib.Core.Bool.{Bool, true, false, ◌&&◌}
-use Prim.Native.Nat.{◌+◌, ◌-◌, ◌≤◌}
-use native.Mathlib.Omega.{arith}
-use borrow.Author.Tests.{not-true, not-false}
+use mathlib.Core.Path.{◌≡◌}
+use Prim.Native.Nat.{◌-◌, ◌≤◌}
 use lib.ListN.{length, drop}
 use Rattle.definition.specs.Cause.{dotted}
-use Rattle.cause.proofs.Dotted.{scan, scan_dotted, scan_dot, scan_plain, scan_space, scan_end}
-use borrow.Author.Rules.{rules}
+use Rattle.cause.proofs.Dotted.{scan}
 use Rattle.cause.proofs.is_dotted.Given as goal
 
 abbrev pub invariant-loop-i : goal.invariant-loop-i

@@ -1,7 +1,6 @@
 -- A name is stored as it is.
 use mathlib.Core.Path.{sym, ◌∙◌}
 use Rattle.definition.proofs.Laws.Text.Cause.{stored_name}
-use borrow.Author.Rules.{rules}
 use Rattle.cause.proofs.is_stored.Goals as goal
 
 pub returns-then-is_one : goal.returns-then-is_one

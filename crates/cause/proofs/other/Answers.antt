@@ -1,6 +1,5 @@
 -- What is not a name is `other:` and a dotted name, or no cause.
 use mathlib.Core.Path.{◌∙◌, sym}
-use borrow.Author.Tests.{not-true, not-false}
 use Rattle.cause.proofs.Ways.{not_other, too_short, other_yes, other_no}
 use borrow.Author.Rules.{rules}
 use Rattle.cause.proofs.other.Goals as goal

@@ -1,11 +1,9 @@
 -- What is stored of what is not a name.
 use mathlib.Core.Path.{◌∙◌, sym, ap}
-use borrow.Author.Tests.{not-true, not-false}
 use Rattle.octets.specs.PartLaws.{part_rest}
 use Rattle.octets.specs.SameLaws.{begins_short}
 use Rattle.definition.specs.Cause.{other, dotted}
 use Rattle.definition.proofs.Laws.Text.Cause.{not_stored, other_stored}
-use borrow.Author.Rules.{rules}
 use Rattle.cause.proofs.other_stored.Goals as goal
 
 pub returns-then-s-lt6 : goal.returns-then-s-lt6

@@ -1,5 +1,4 @@
 -- `acted_on`: state, time and end of the action.
-use borrow.Author.Rules.{rules}
 use mathlib.Core.Path.{◌∙◌, ap}
 use Rattle.definition.specs.Alarm.{late}
 use Rattle.definition.specs.Steps.{action_state}

@@ -1,5 +1,4 @@
 -- `cleared_by`: severity, state and both times of a clear, and no end.
-use borrow.Author.Rules.{rules}
 use mathlib.Core.Path.{◌∙◌, ap}
 use Rattle.definition.specs.Alarm.{late}
 use Rattle.changes.specs.ChangeLaws.{cleared}

@@ -1,5 +1,4 @@
 -- `expired_by`: state and both times of an expiry, and no end.
-use borrow.Author.Rules.{rules}
 use Rattle.changes.specs.ChangeLaws.{expired}
 use Rattle.changes.proofs.expired_by.Goals as goal
 

@@ -1,5 +1,4 @@
 -- `lifted_by`: state and time of an alarm whose suppression is over, and no end.
-use borrow.Author.Rules.{rules}
 use mathlib.Core.Path.{◌∙◌, ap}
 use Rattle.definition.specs.Alarm.{late}
 use Rattle.changes.specs.ChangeLaws.{lifted}

@@ -1,5 +1,4 @@
 -- `one_more_raise`: below the most there is room for one more.
-use borrow.Author.Rules.{rules}
 use borrow.Author.Tests.{lt-ltb, le-ltb}
 use Rattle.definition.specs.Steps.{one_more_raise}
 use Rattle.changes.proofs.one_more_raise.Goals as goal

@@ -1,5 +1,4 @@
 -- `set_end`: no end are zeros, an end its time.
-use borrow.Author.Rules.{rules}
 use Rattle.changes.proofs.set_end.Goals as goal
 
 pub returns-in-Untimed : goal.returns-in-Untimed

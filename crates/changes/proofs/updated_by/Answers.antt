@@ -1,5 +1,4 @@
 -- `updated_by`: severity, text, details, state, time and raises, one after the other.
-use borrow.Author.Rules.{rules}
 use mathlib.Core.Path.{◌∙◌, ap}
 use Rattle.definition.specs.Alarm.{late}
 use Rattle.definition.specs.Steps.{updated_state, one_more_raise}

@@ -1,5 +1,4 @@
 -- `expire`: the sweep, and its number.
-use borrow.Author.Rules.{rules}
 use Rattle.expiry.specs.SweepLaws.{expires_all}
 use Rattle.expiry.proofs.expire.Goals as goal
 

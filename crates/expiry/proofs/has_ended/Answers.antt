@@ -1,7 +1,6 @@
 -- `has_ended`: an end that is there is compared.
 use mathlib.Core.Path.{ap}
 use mathlib.Core.Bool.{not}
-use borrow.Author.Rules.{rules}
 use Rattle.expiry.proofs.has_ended.Goals as goal
 
 pub returns-in-Absent : goal.returns-in-Absent

@@ -1,7 +1,6 @@
 -- `is_due`: the time of the last update is compared.
 use mathlib.Core.Path.{ap, ◌∙◌}
 use Prim.Native.Nat.{ℕ}
-use borrow.Author.Rules.{rules}
 use Rattle.octets.specs.Bytes.{Bytes}
 use Rattle.definition.specs.Alarm.{before}
 use Rattle.definition.specs.Record.{read_alarm}

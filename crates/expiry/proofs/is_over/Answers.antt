@@ -1,10 +1,8 @@
 -- `is_over`: the state, and the end.
 use mathlib.Core.Path.{ap, ap₂, ◌∙◌}
 use mathlib.Core.Bool.{Bool, ◌&&◌}
-use mathlib.Core.Option.{Option}
 use Prim.Native.Nat.{ℕ}
 use lib.Dec.{eqb}
-use borrow.Author.Rules.{rules}
 use Rattle.octets.specs.Bytes.{Bytes}
 use Rattle.definition.specs.Alarm.{has_ended}
 use Rattle.definition.specs.Record.{read_alarm}

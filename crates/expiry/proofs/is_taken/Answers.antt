@@ -1,5 +1,4 @@
 -- `is_taken`: by the round.
-use borrow.Author.Rules.{rules}
 use Rattle.expiry.proofs.is_taken.Goals as goal
 
 pub returns-in-Expire : goal.returns-in-Expire

@@ -1,5 +1,4 @@
 -- `lift`: the sweep, and its number.
-use borrow.Author.Rules.{rules}
 use Rattle.expiry.specs.SweepLaws.{lifts_all}
 use Rattle.expiry.proofs.lift.Goals as goal
 

@@ -1,11 +1,8 @@
 -- `sweep`: along the active chain, from its first record to its last.
-use mathlib.Core.Path.{◌≡◌, refl}
-use Prim.Native.Nat.{◌+◌, ◌-◌, ◌*◌, ◌≤◌}
-use native.Mathlib.Omega.{arith}
-use borrow.Author.Rules.{rules}
+use mathlib.Core.Path.{◌≡◌}
+use Prim.Native.Nat.{◌-◌}
 use lib.ListN.{length}
 use Rattle.expiry.specs.Sweep.{Sweep}
-use Rattle.expiry.specs.SweepLaws.{sweep_start, meets_fits, meets_free, sweep_end}
 use Rattle.expiry.proofs.sweep.Given as goal
 
 abbrev pub invariant-loop-k : goal.invariant-loop-k

@@ -1,5 +1,4 @@
 -- `take_at`: by the round.
-use borrow.Author.Rules.{rules}
 use Rattle.expiry.proofs.take_at.Goals as goal
 
 pub lift_at-requires : goal.lift_at-requires

@@ -1,7 +1,6 @@
 -- `bytes_at` meets its contract: what is read of the part, carried over.
 use Rattle.fields.specs.BytesLaws.{bytes_from_lem}
 use Rattle.fields.specs.MovedLaws.{span_moves, ends_inside, says_carried}
-use borrow.Author.Rules.{rules}
 use Rattle.fields.proofs.bytes_at.Goals as goal
 
 pub returns : goal.returns

@@ -1,7 +1,6 @@
 -- `cause_at` meets its contract: what is read of the part, carried over.
 use native.Mathlib.Omega.{arith}
 use Rattle.fields.specs.MovedLaws.{cause_moves, cause_starts, says_carried}
-use borrow.Author.Rules.{rules}
 use Rattle.fields.proofs.cause_at.Goals as goal
 
 pub cause_on-requires : goal.cause_on-requires

@@ -1,5 +1,4 @@
 -- `cause_on` meets its contract: a name, or the span moved.
-use borrow.Author.Rules.{rules}
 use Rattle.fields.proofs.cause_on.Goals as goal
 
 pub span_on-requires : goal.span_on-requires

@@ -1,6 +1,5 @@
 -- `choice_at` meets its contract: what is read of the part, carried over.
 use Rattle.fields.specs.MovedLaws.{carried}
-use borrow.Author.Rules.{rules}
 use Rattle.fields.proofs.choice_at.Goals as goal
 
 pub returns : goal.returns

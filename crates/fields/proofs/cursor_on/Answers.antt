@@ -1,6 +1,5 @@
 -- `cursor_on` meets its contract: a fault of the one or of the other, or the place moved.
 use native.Mathlib.Omega.{arith}
-use borrow.Author.Rules.{rules}
 use Rattle.fields.proofs.cursor_on.Goals as goal
 
 pub overflow_add-result : goal.overflow_add-result

@@ -1,6 +1,5 @@
 -- `number_at` meets its contract: what is read of the part, carried over.
 use Rattle.fields.specs.MovedLaws.{carried}
-use borrow.Author.Rules.{rules}
 use Rattle.fields.proofs.number_at.Goals as goal
 
 pub returns : goal.returns

@@ -1,7 +1,6 @@
 -- `option_at` meets its contract: what is read of the part, carried over.
 use native.Mathlib.Omega.{arith}
 use Rattle.fields.specs.MovedLaws.{option_moves, option_starts, says_carried}
-use borrow.Author.Rules.{rules}
 use Rattle.fields.proofs.option_at.Goals as goal
 
 pub option_on-requires : goal.option_on-requires

@@ -1,5 +1,4 @@
 -- `option_on` meets its contract: none, or the span moved.
-use borrow.Author.Rules.{rules}
 use Rattle.fields.proofs.option_on.Goals as goal
 
 pub span_on-requires : goal.span_on-requires

@@ -1,6 +1,5 @@
 -- `raise_text_at` meets its contract: what is read of the part, carried over.
 use Rattle.fields.specs.MovedLaws.{span_moves, says_carried}
-use borrow.Author.Rules.{rules}
 use Rattle.fields.proofs.raise_text_at.Goals as goal
 
 pub returns : goal.returns

@@ -2,7 +2,6 @@
 use native.Mathlib.Omega.{arith}
 use lib.Seq.{drop-length}
 use Rattle.fields.specs.MovedLaws.{past_end}
-use borrow.Author.Rules.{rules}
 use Rattle.fields.proofs.start.Goals as goal
 
 pub returns-else-i-call : goal.returns-else-i-call

@@ -1,6 +1,5 @@
 -- `string_at` meets its contract: what is read of the part, carried over.
 use Rattle.fields.specs.MovedLaws.{span_moves, ends_inside, says_carried}
-use borrow.Author.Rules.{rules}
 use Rattle.fields.proofs.string_at.Goals as goal
 
 pub returns : goal.returns

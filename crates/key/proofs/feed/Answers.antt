@@ -7,7 +7,6 @@ use Rattle.definition.specs.Key.{string, fed}
 use Rattle.definition.proofs.Laws.Text.Key.{length_string}
 use Rattle.model.specs.PartLaws.{part_short}
 use Rattle.key.proofs.Rooms.{room_front, room_behind, fed_room}
-use borrow.Author.Rules.{rules}
 use Rattle.key.proofs.feed.Goals as goal
 
 pub put_string-t-requires : goal.put_string-t-requires

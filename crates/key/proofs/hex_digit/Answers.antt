@@ -1,5 +1,4 @@
 -- `hex_digit` meets its contract: the definition asks what the code does.
-use borrow.Author.Rules.{rules}
 use borrow.Author.Tests.{lt-ltb, le-ltb}
 use Rattle.key.proofs.hex_digit.Goals as goal
 

@@ -7,7 +7,6 @@ use Rattle.octets.specs.SpliceLaws.{splice_whole}
 use Rattle.fips180.specs.Sha256.{sha256_of}
 use Rattle.definition.specs.Key.{key_of}
 use Rattle.octets.specs.PutLaws.{put_front}
-use borrow.Author.Rules.{rules}
 use Rattle.key.proofs.key_of.Goals as goal
 
 pub slice_bounds-sha256-end : goal.slice_bounds-sha256-end

@@ -2,7 +2,6 @@
 use Rattle.octets.specs.PutLaws.{put_two, put_as}
 use Rattle.key.proofs.Fed.{queue_fed}
 use Rattle.key.proofs.Rooms.{room_as, room_front, room_behind}
-use borrow.Author.Rules.{rules}
 use Rattle.key.proofs.put_data_plane_queue.Goals as goal
 
 pub put_pair-n-requires : goal.put_pair-n-requires

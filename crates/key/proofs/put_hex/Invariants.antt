@@ -1,14 +1,9 @@
 -- `put_hex` meets its contract: the digits of the bytes passed are in their place.
-use mathlib.Core.Path.{◌≡◌, refl, sym, ap, ◌∙◌}
+use mathlib.Core.Path.{◌≡◌}
 use Prim.Native.Nat.{◌≤◌, ◌-◌}
-use native.Mathlib.Omega.{arith}
-use borrow.Author.Rules.{rules}
-use lib.ListN.{length, take, length-set}
-use lib.Seq.{take_all}
+use lib.ListN.{length, take}
 use Rattle.octets.specs.Bytes.{splice}
-use Rattle.octets.specs.SpliceLaws.{splice_none}
 use Rattle.definition.specs.Key.{hex}
-use Rattle.key.proofs.HexLaws.{hex_step}
 use Rattle.key.proofs.put_hex.Given as goal
 
 abbrev pub invariant-loop-i : goal.invariant-loop-i

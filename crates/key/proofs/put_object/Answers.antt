@@ -5,7 +5,6 @@ use Rattle.definition.specs.Key.{parts, fed_object}
 use Rattle.model.specs.CaseLaws.{object_case}
 use Rattle.key.proofs.Fed.{object_fed, single_fed, pair_fed, store_fed, queue_lent}
 use Rattle.key.proofs.Rooms.{room_as, room_front, room_behind, shard_wider}
-use borrow.Author.Rules.{rules}
 use Rattle.key.proofs.put_object.Goals as goal
 
 pub part-requires : goal.part-requires

@@ -6,7 +6,6 @@ use Rattle.octets.specs.PutLaws.{put_as}
 use Rattle.model.specs.CaseLaws.{option_case}
 use Rattle.key.proofs.Fed.{option_fed}
 use Rattle.key.proofs.Rooms.{room_as, byte_put}
-use borrow.Author.Rules.{rules}
 use Rattle.key.proofs.put_option.Goals as goal
 
 pub put_byte-requires : goal.put_byte-requires

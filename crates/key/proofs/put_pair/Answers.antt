@@ -1,7 +1,6 @@
 -- `put_pair` meets its contract: the second string stands behind tag and first string.
 use Rattle.octets.specs.PutLaws.{put_two}
 use Rattle.key.proofs.Rooms.{room_front, room_behind, string_asks}
-use borrow.Author.Rules.{rules}
 use Rattle.key.proofs.put_pair.Goals as goal
 
 pub put_single-n-requires : goal.put_single-n-requires

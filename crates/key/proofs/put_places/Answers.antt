@@ -2,7 +2,6 @@
 use Rattle.octets.specs.PutLaws.{put_two}
 use Rattle.definition.specs.Key.{fed_places}
 use Rattle.key.proofs.Rooms.{room_front, room_behind, option_wider}
-use borrow.Author.Rules.{rules}
 use Rattle.key.proofs.put_places.Goals as goal
 
 pub put_option-n-requires : goal.put_option-n-requires

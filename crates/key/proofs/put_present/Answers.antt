@@ -1,7 +1,6 @@
 -- `put_present` meets its contract: byte 1, and the string behind it.
 use Rattle.octets.specs.PutLaws.{put_two}
 use Rattle.key.proofs.Rooms.{room_behind, string_asks, byte_put}
-use borrow.Author.Rules.{rules}
 use Rattle.key.proofs.put_present.Goals as goal
 
 pub put_string-requires : goal.put_string-requires

@@ -6,7 +6,6 @@ use Rattle.octets.specs.PartLaws.{part_rest}
 use Rattle.definition.specs.Key.{string, decimal}
 use Rattle.definition.proofs.Laws.Text.Key.{length_string, length_decimal, five_decimal, five_digits}
 use Rattle.octets.specs.PutLaws.{put_as}
-use borrow.Author.Rules.{rules}
 use Rattle.key.proofs.put_queue.Goals as goal
 
 pub put_string-requires : goal.put_string-requires

@@ -1,7 +1,6 @@
 -- `put_single` meets its contract: the string stands behind the tag.
 use Rattle.octets.specs.PutLaws.{put_two}
 use Rattle.key.proofs.Rooms.{room_front, room_behind, string_asks}
-use borrow.Author.Rules.{rules}
 use Rattle.key.proofs.put_single.Goals as goal
 
 pub put_string-n-requires : goal.put_string-n-requires

@@ -1,7 +1,6 @@
 -- `data_plane_queue_at` meets its contract: two strings and a number.
 use Rattle.definition.specs.Parse.{data_plane_queue}
 use Rattle.fields.specs.CursorLaws.{done, step}
-use borrow.Author.Rules.{rules}
 use Rattle.key_fields.proofs.data_plane_queue_at.Goals as goal
 
 pub returns : goal.returns

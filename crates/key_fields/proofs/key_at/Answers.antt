@@ -1,7 +1,6 @@
 -- `key_at` meets its contract: the cause, the object and its places.
 use Rattle.definition.specs.Parse.{key}
 use Rattle.fields.specs.CursorLaws.{done, step}
-use borrow.Author.Rules.{rules}
 use Rattle.key_fields.proofs.key_at.Goals as goal
 
 pub returns : goal.returns

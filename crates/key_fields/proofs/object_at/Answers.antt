@@ -1,7 +1,6 @@
 -- `object_at` meets its contract: the kind, and then its strings.
 use Rattle.definition.specs.Parse.{object}
 use Rattle.fields.specs.CursorLaws.{step}
-use borrow.Author.Rules.{rules}
 use Rattle.key_fields.proofs.object_at.Goals as goal
 
 pub returns : goal.returns

@@ -1,7 +1,6 @@
 -- `pair_at` meets its contract: two strings, and then the kind.
 use Rattle.definition.specs.Parse.{pair}
 use Rattle.fields.specs.CursorLaws.{done, step}
-use borrow.Author.Rules.{rules}
 use Rattle.key_fields.proofs.pair_at.Goals as goal
 
 pub returns : goal.returns

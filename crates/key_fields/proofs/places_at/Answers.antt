@@ -1,7 +1,6 @@
 -- `places_at` meets its contract: three optional strings.
 use Rattle.definition.specs.Parse.{places}
 use Rattle.fields.specs.CursorLaws.{done, step}
-use borrow.Author.Rules.{rules}
 use Rattle.key_fields.proofs.places_at.Goals as goal
 
 pub returns : goal.returns

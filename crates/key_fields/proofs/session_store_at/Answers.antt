@@ -1,7 +1,6 @@
 -- `session_store_at` meets its contract: a string and an optional one.
 use Rattle.definition.specs.Parse.{session_store}
 use Rattle.fields.specs.CursorLaws.{done, step}
-use borrow.Author.Rules.{rules}
 use Rattle.key_fields.proofs.session_store_at.Goals as goal
 
 pub returns : goal.returns

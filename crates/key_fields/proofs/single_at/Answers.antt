@@ -1,6 +1,5 @@
 -- `single_at` meets its contract: a string, and then the kind.
 use Rattle.fields.specs.CursorLaws.{becomes}
-use borrow.Author.Rules.{rules}
 use Rattle.key_fields.proofs.single_at.Goals as goal
 
 pub returns : goal.returns

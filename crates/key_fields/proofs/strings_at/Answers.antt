@@ -1,7 +1,6 @@
 -- `strings_at` meets its contract: a reader for each kind.
 use Rattle.definition.specs.Parse.{object_of}
 use borrow.Author.Tests.{ne_eqb}
-use borrow.Author.Rules.{rules}
 use Rattle.key_fields.proofs.strings_at.Goals as goal
 
 -- kind 8

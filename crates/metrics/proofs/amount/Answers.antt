@@ -2,11 +2,9 @@
 use Prim.Native.Nat.{◌-◌}
 use mathlib.Core.Path.{sym}
 use native.Mathlib.Omega.{arith}
-use borrow.Author.Rules.{rules}
-use Rattle.definition.specs.Reports.{rating, same_rating}
-use Rattle.history.specs.Walk.{Reached}
+use Rattle.definition.specs.Reports.{rating}
 use Rattle.history.specs.WalkLaws.{reached_most, reached_fits, reached_next, field_here, field_end}
-use Rattle.history.specs.CountLaws.{Counted, counted_next, counted_all}
+use Rattle.history.specs.CountLaws.{counted_next, counted_all}
 use Rattle.metrics.specs.Meaning.{ratings, rating_at}
 use Rattle.metrics.specs.FirstLaws.{counted_from}
 use Rattle.metrics.specs.RowLaws.{reached_as}

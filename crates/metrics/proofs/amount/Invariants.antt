@@ -1,15 +1,9 @@
 -- `amount`: of the records passed, as many as were found have the rating.
 use Prim.Native.Nat.{◌-◌}
-use mathlib.Core.Path.{sym}
-use native.Mathlib.Omega.{arith}
-use borrow.Author.Rules.{rules}
-use Rattle.definition.specs.Reports.{rating, same_rating}
+use Rattle.definition.specs.Reports.{same_rating}
 use Rattle.history.specs.Walk.{Reached}
-use Rattle.history.specs.WalkLaws.{reached_most, reached_fits, reached_next, field_here, field_end}
-use Rattle.history.specs.CountLaws.{Counted, counted_next, counted_all}
+use Rattle.history.specs.CountLaws.{Counted}
 use Rattle.metrics.specs.Meaning.{ratings, rating_at}
-use Rattle.metrics.specs.FirstLaws.{counted_from}
-use Rattle.metrics.specs.RowLaws.{reached_as}
 use Rattle.metrics.proofs.amount.Given as goal
 
 abbrev pub invariant-loop-p : goal.invariant-loop-p

@@ -2,7 +2,6 @@
 use Prim.Native.Nat.{ℕ}
 use native.Mathlib.Omega.{arith}
 use lib.ListN.{length-replicate}
-use borrow.Author.Rules.{rules}
 use Rattle.metrics.specs.RowLaws.{covers}
 use Rattle.metrics.specs.CountsLaws.{counts_refused, counts_fit, counts_answered}
 use Rattle.metrics.proofs.counts.Goals as goal

@@ -1,7 +1,5 @@
 -- `entry_length`: the four parts of an entry, or nothing.
 use mathlib.Core.Path.{ap}
-use borrow.Author.Tests.{not-true, not-false}
-use borrow.Author.Rules.{rules}
 use lib.ListN.{length}
 use Prim.Native.Nat.{◌+◌}
 use Rattle.octets.specs.Bytes.{Bytes}

@@ -1,15 +1,9 @@
 -- `is_first`: no row has the rating, and none of the places passed.
 use Prim.Native.Nat.{◌-◌}
-use mathlib.Core.Path.{sym, ◌∙◌}
-use native.Mathlib.Omega.{arith}
-use borrow.Author.Rules.{rules}
 use Rattle.octets.specs.Bytes.{at32}
-use Rattle.definition.specs.Reports.{rating}
 use Rattle.history.specs.Walk.{Reached}
-use Rattle.history.specs.WalkLaws.{reached_fits, reached_next, field_here}
 use Rattle.metrics.specs.Meaning.{ratings, rating_at}
-use Rattle.metrics.specs.FirstLaws.{seen_later, Unmet, unmet_from, unmet_next, met, unmet_all}
-use Rattle.metrics.specs.RowLaws.{covers_row, covers_none}
+use Rattle.metrics.specs.FirstLaws.{Unmet}
 use Rattle.metrics.proofs.is_first.Given as goal
 
 abbrev pub invariant-loop-j : goal.invariant-loop-j

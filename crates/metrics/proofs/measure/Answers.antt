@@ -2,10 +2,9 @@
 use Prim.Native.Nat.{◌-◌}
 use mathlib.Core.Path.{refl}
 use native.Mathlib.Omega.{arith}
-use borrow.Author.Rules.{rules}
 use Rattle.history.specs.WalkLaws.{reached_fits, reached_most}
 use Rattle.metrics.specs.RowLaws.{at_place}
-use Rattle.metrics.specs.ListingLaws.{Measured, measured_rows, measured_small, measured_next, measured_all}
+use Rattle.metrics.specs.ListingLaws.{measured_rows, measured_small, measured_next, measured_all}
 use Rattle.metrics.proofs.measure.Goals as goal
 
 pub rows_end-end-requires : goal.rows_end-end-requires

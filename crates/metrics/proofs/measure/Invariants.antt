@@ -1,11 +1,6 @@
 -- `measure`: the entries of the places passed, and where they end.
 use Prim.Native.Nat.{◌-◌}
-use mathlib.Core.Path.{refl}
-use native.Mathlib.Omega.{arith}
-use borrow.Author.Rules.{rules}
-use Rattle.history.specs.WalkLaws.{reached_fits, reached_most}
-use Rattle.metrics.specs.RowLaws.{at_place}
-use Rattle.metrics.specs.ListingLaws.{Measured, measured_rows, measured_small, measured_next, measured_all}
+use Rattle.metrics.specs.ListingLaws.{Measured}
 use Rattle.metrics.proofs.measure.Given as goal
 
 abbrev pub invariant-loop-k : goal.invariant-loop-k

@@ -2,10 +2,9 @@
 use Prim.Native.Nat.{◌-◌}
 use mathlib.Core.Path.{sym}
 use native.Mathlib.Omega.{arith}
-use borrow.Author.Rules.{rules}
 use Rattle.history.specs.WalkLaws.{reached_fits}
 use Rattle.metrics.specs.RowLaws.{reached_as, at_place}
-use Rattle.metrics.specs.ListingLaws.{rows_fit, rows_begun, Written, written_none, written_fits, written_next, written_length, written_all}
+use Rattle.metrics.specs.ListingLaws.{rows_fit, rows_begun, written_none, written_fits, written_next, written_length, written_all}
 use Rattle.metrics.proofs.put_entries.Goals as goal
 
 pub put_rows-end-requires : goal.put_rows-end-requires

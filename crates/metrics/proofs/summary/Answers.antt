@@ -1,5 +1,4 @@
 -- `summary`: the numbers of the header, and the headline.
-use borrow.Author.Rules.{rules}
 use Rattle.metrics.specs.SummaryLaws.{summarised}
 use Rattle.metrics.proofs.summary.Goals as goal
 

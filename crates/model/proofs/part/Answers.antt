@@ -1,6 +1,5 @@
 -- `part` meets its contract: from the span's place to its length behind it.
 use Rattle.definition.proofs.Laws.Record.Slot.{part_lent}
-use borrow.Author.Rules.{rules}
 use Rattle.model.proofs.part.Goals as goal
 
 pub returns : goal.returns

@@ -1,13 +1,8 @@
 -- `clear`: the bytes passed are zero.
 use Prim.Native.Nat.{◌≤◌, ◌-◌}
-use mathlib.Core.Path.{◌≡◌, sym, ◌∙◌, ap}
-use native.Mathlib.Omega.{arith}
+use mathlib.Core.Path.{◌≡◌}
 use lib.ListN.{length, take}
-use lib.Seq.{take_all}
 use Rattle.octets.specs.Bytes.{zeros}
-use Rattle.octets.specs.NumberLaws.{zeros_none}
-use Rattle.octets.specs.SpliceLaws.{clear_step}
-use borrow.Author.Rules.{rules}
 use Rattle.octets.proofs.clear.Given as goal
 
 abbrev pub invariant-loop-i : goal.invariant-loop-i

@@ -1,7 +1,5 @@
 -- `copy`: the bytes passed are those of src.
-use Prim.Native.Nat.{◌≤◌, ◌-◌}
-use mathlib.Core.Path.{◌≡◌, sym, ◌∙◌}
-use lib.ListN.{length, take}
+use mathlib.Core.Path.{sym, ◌∙◌}
 use lib.Seq.{take_all}
 use Rattle.octets.specs.SpliceLaws.{copy_step}
 use borrow.Author.Rules.{rules}

@@ -1,9 +1,6 @@
 -- `equal`: the bytes not yet compared decide.
-use mathlib.Core.Path.{◌≡◌, ◌∙◌, sym}
-use Prim.Native.Nat.{◌≤◌, ◌-◌}
+use mathlib.Core.Path.{◌∙◌, sym}
 use native.Mathlib.Omega.{arith}
-use lib.ListN.{length, drop}
-use Rattle.octets.specs.Bytes.{same}
 use Rattle.octets.specs.SameLaws.{same_lengths, same_step, same_not, same_end}
 use borrow.Author.Rules.{rules}
 use Rattle.octets.proofs.equal.Goals as goal

@@ -1,10 +1,6 @@
 -- `fill`: what is left of v stands before the bytes written, from the last one on.
-use Prim.Native.Nat.{◌≤◌, ◌+◌}
-use mathlib.Core.Path.{◌≡◌, sym, ◌∙◌}
-use mathlib.Core.List.{◌++◌}
+use mathlib.Core.Path.{sym, ◌∙◌}
 use native.Mathlib.Omega.{arith}
-use lib.ListN.{length, drop}
-use Rattle.octets.specs.Bytes.{digits}
 use Rattle.octets.proofs.NumberSteps.{digit_start, digit_step, digit_end}
 use borrow.Author.Rules.{rules}
 use Rattle.octets.proofs.fill.Goals as goal

@@ -1,12 +1,9 @@
 -- `fill`: what is left of v stands before the bytes written, from the last one on.
-use Prim.Native.Nat.{◌≤◌, ◌+◌}
-use mathlib.Core.Path.{◌≡◌, sym, ◌∙◌}
+use Prim.Native.Nat.{◌≤◌}
+use mathlib.Core.Path.{◌≡◌}
 use mathlib.Core.List.{◌++◌}
-use native.Mathlib.Omega.{arith}
 use lib.ListN.{length, drop}
 use Rattle.octets.specs.Bytes.{digits}
-use Rattle.octets.proofs.NumberSteps.{digit_start, digit_step, digit_end}
-use borrow.Author.Rules.{rules}
 use Rattle.octets.proofs.fill.Given as goal
 
 abbrev pub invariant-loop-i : goal.invariant-loop-i

@@ -1,9 +1,6 @@
 -- `is_blank`: the or of the bytes passed is zero where they all are.
-use mathlib.Core.Path.{◌≡◌, ◌∙◌, sym, ap}
-use Prim.Native.Nat.{◌≤◌, ◌-◌}
+use mathlib.Core.Path.{◌∙◌, sym, ap}
 use native.Mathlib.Omega.{arith}
-use lib.Dec.{eqb}
-use lib.ListN.{length, take}
 use lib.Seq.{take_all}
 use Rattle.octets.specs.Bytes.{blank}
 use Rattle.octets.specs.BlankLaws.{blank_none, blank_step}

@@ -1,13 +1,9 @@
 -- `is_blank`: the or of the bytes passed is zero where they all are.
-use mathlib.Core.Path.{◌≡◌, ◌∙◌, sym, ap}
+use mathlib.Core.Path.{◌≡◌}
 use Prim.Native.Nat.{◌≤◌, ◌-◌}
-use native.Mathlib.Omega.{arith}
 use lib.Dec.{eqb}
 use lib.ListN.{length, take}
-use lib.Seq.{take_all}
 use Rattle.octets.specs.Bytes.{blank}
-use Rattle.octets.specs.BlankLaws.{blank_none, blank_step}
-use borrow.Author.Rules.{rules}
 use Rattle.octets.proofs.is_blank.Given as goal
 
 abbrev pub invariant-loop-i : goal.invariant-loop-i

@@ -1,9 +1,7 @@
 -- `number`: the number of the bytes passed, with the others still to be read behind it.
 use mathlib.Core.Path.{◌≡◌, ◌∙◌, sym, refl}
-use Prim.Native.Nat.{◌-◌, ◌^◌, ◌≤◌, ◌<◌}
 use native.Mathlib.Omega.{arith}
-use lib.ListN.{length, drop}
-use Rattle.octets.specs.Bytes.{value_from}
+use lib.ListN.{length}
 use Rattle.octets.proofs.NumberSteps.{value_step, value_end, grows, room}
 use borrow.Author.Rules.{rules}
 use Rattle.octets.proofs.number.Goals as goal

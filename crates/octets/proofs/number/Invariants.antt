@@ -1,11 +1,8 @@
 -- `number`: the number of the bytes passed, with the others still to be read behind it.
-use mathlib.Core.Path.{◌≡◌, ◌∙◌, sym, refl}
+use mathlib.Core.Path.{◌≡◌}
 use Prim.Native.Nat.{◌-◌, ◌^◌, ◌≤◌, ◌<◌}
-use native.Mathlib.Omega.{arith}
 use lib.ListN.{length, drop}
 use Rattle.octets.specs.Bytes.{value_from}
-use Rattle.octets.proofs.NumberSteps.{value_step, value_end, grows, room}
-use borrow.Author.Rules.{rules}
 use Rattle.octets.proofs.number.Given as goal
 
 abbrev pub invariant-loop-i : goal.invariant-loop-i

@@ -1,6 +1,5 @@
 -- `put_byte`: a store is a splice of one byte.
 use Rattle.octets.specs.SpliceLaws.{set_splice}
-use borrow.Author.Rules.{rules}
 use Rattle.octets.proofs.put_byte.Goals as goal
 
 pub returns : goal.returns

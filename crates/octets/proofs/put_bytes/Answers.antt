@@ -1,7 +1,6 @@
 -- `put_bytes`: the part that was lent came back with the bytes of src.
 use native.Mathlib.Omega.{arith}
 use Rattle.octets.specs.SpliceLaws.{back}
-use borrow.Author.Rules.{rules}
 use Rattle.octets.proofs.put_bytes.Goals as goal
 
 pub returns : goal.returns

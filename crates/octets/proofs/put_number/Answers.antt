@@ -2,7 +2,6 @@
 use Rattle.octets.specs.Bytes.{digits}
 use Rattle.octets.specs.NumberLaws.{length_digits}
 use Rattle.octets.specs.SpliceLaws.{back_made}
-use borrow.Author.Rules.{rules}
 use Rattle.octets.proofs.put_number.Goals as goal
 
 pub returns : goal.returns

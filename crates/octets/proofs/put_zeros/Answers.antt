@@ -2,7 +2,6 @@
 use Rattle.octets.specs.Bytes.{zeros}
 use Rattle.octets.specs.NumberLaws.{length_zeros}
 use Rattle.octets.specs.SpliceLaws.{back_made}
-use borrow.Author.Rules.{rules}
 use Rattle.octets.proofs.put_zeros.Goals as goal
 
 pub returns : goal.returns

@@ -1,9 +1,6 @@
 -- `starts`: the bytes not yet compared decide.
-use mathlib.Core.Path.{◌≡◌, ◌∙◌, sym}
-use Prim.Native.Nat.{◌≤◌, ◌-◌}
+use mathlib.Core.Path.{◌∙◌, sym}
 use native.Mathlib.Omega.{arith}
-use lib.ListN.{length, drop}
-use Rattle.octets.specs.Bytes.{begins}
 use Rattle.octets.specs.SameLaws.{begins_step, begins_not, begins_end, begins_short}
 use borrow.Author.Rules.{rules}
 use Rattle.octets.proofs.starts.Goals as goal

@@ -1,6 +1,5 @@
 -- `asks_record`: the operation's number, case by case.
 use mathlib.Core.Path.{sym}
-use borrow.Author.Rules.{rules}
 use Rattle.model.specs.Meaning.{action_of, deed_of}
 use Rattle.action_fields.specs.Meaning.{plain_value, policy_value}
 use Rattle.operations.specs.RoomLaws.{plain_asks, policy_asks}

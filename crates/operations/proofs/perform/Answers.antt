@@ -1,13 +1,11 @@
 -- `perform`: no room, 30; else the dispatch.
 use mathlib.Core.Path.{sym, ◌∙◌}
-use borrow.Author.Rules.{rules}
-use Rattle.std.proofs.Common.{ℕ, ◌≡◌, Bool, true, false, ◌&&◌, ltb}
+use Rattle.std.proofs.Common.{ℕ, ◌≡◌, Bool, false, ◌&&◌, ltb}
 use Rattle.definition.specs.Value.{CallValue, op_of}
 use Rattle.definition.specs.Perform.{asks_record}
 use Rattle.call.specs.Meaning.{meaning}
 use Rattle.operations.specs.Meaning.{HasRoom}
 use Rattle.operations.specs.RoomLaws.{lacks, suffices, no_room, has_room}
-use lib.ListN.{length}
 use Rattle.operations.proofs.perform.Goals as goal
 
 pub returns-then-asks_record-lacks : goal.returns-then-asks_record-lacks

@@ -1,6 +1,5 @@
 -- `flag`: by the state.
 use native.Mathlib.Omega.{arith}
-use borrow.Author.Rules.{rules}
 use Rattle.panel.specs.FlagLaws.{flag_none, flag_one}
 use Rattle.panel.proofs.flag.Goals as goal
 

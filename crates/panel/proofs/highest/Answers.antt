@@ -1,5 +1,4 @@
 -- `highest`: what the leading zeros leave of eight bits.
-use borrow.Author.Rules.{rules}
 use lib.Bits.{bit_and, and_lt}
 use lib.Count.{leading_le}
 use Rattle.panel.specs.BitLaws.{leading_highest}

@@ -1,6 +1,5 @@
 -- `mask_of`: a write of byte 1 brings its value; what else is asked leaves the mask.
 use native.Mathlib.Omega.{arith}
-use borrow.Author.Rules.{rules}
 use borrow.Author.Tests.{ne_eqb}
 use Rattle.panel.proofs.mask_of.Goals as goal
 

@@ -1,7 +1,6 @@
 -- `show`: 30, or the block that is made of what the calls before give.
 use mathlib.Core.Path.{ap, ◌∙◌}
 use native.Mathlib.Omega.{arith}
-use borrow.Author.Rules.{rules}
 use Rattle.octets.specs.Bytes.{Bytes, be32, splice}
 use Rattle.panel.specs.BlockLaws.{other_width, made_anew}
 use Rattle.panel.proofs.show.Goals as goal

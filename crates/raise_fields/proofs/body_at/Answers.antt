@@ -1,7 +1,6 @@
 -- `body_at` meets its contract: text and details.
 use Rattle.definition.specs.Parse.{raise_body}
 use Rattle.fields.specs.CursorLaws.{done, step}
-use borrow.Author.Rules.{rules}
 use Rattle.raise_fields.proofs.body_at.Goals as goal
 
 pub returns : goal.returns

@@ -1,7 +1,6 @@
 -- `clear_at` meets its contract: time, type and key.
 use Rattle.definition.specs.Parse.{clear_fields}
 use Rattle.fields.specs.CursorLaws.{done, step}
-use borrow.Author.Rules.{rules}
 use Rattle.raise_fields.proofs.clear_at.Goals as goal
 
 pub returns : goal.returns

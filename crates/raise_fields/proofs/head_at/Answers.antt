@@ -1,7 +1,6 @@
 -- `head_at` meets its contract: time, id, type and severity.
 use Rattle.definition.specs.Parse.{raise_head}
 use Rattle.fields.specs.CursorLaws.{done, step}
-use borrow.Author.Rules.{rules}
 use Rattle.raise_fields.proofs.head_at.Goals as goal
 
 pub returns : goal.returns

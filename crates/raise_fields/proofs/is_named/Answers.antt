@@ -1,7 +1,6 @@
 -- `is_named` meets its contract: there is none, or it has a length.
 use mathlib.Core.Path.{sym, ap}
 use Rattle.raise_fields.specs.Meaning.{named_span}
-use borrow.Author.Rules.{rules}
 use Rattle.raise_fields.proofs.is_named.Goals as goal
 
 pub returns-in-Present : goal.returns-in-Present

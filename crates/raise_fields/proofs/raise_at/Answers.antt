@@ -3,7 +3,6 @@ use Rattle.definition.specs.Limits.{region_limit}
 use Rattle.definition.specs.Parse.{raise_fields}
 use Rattle.fields.specs.CursorLaws.{step, tested}
 use Rattle.raise_fields.specs.RegionLaws.{region_named}
-use borrow.Author.Rules.{rules}
 use Rattle.raise_fields.proofs.raise_at.Goals as goal
 
 pub returns : goal.returns

@@ -1,6 +1,5 @@
 -- `insert`: an id that is active is refused; else the new alarm is stored.
 use mathlib.Core.Path.{refl, sym, ◌∙◌}
-use borrow.Author.Rules.{rules}
 use Rattle.history.specs.StandingLaws.{standing_newest}
 use Rattle.raise_fields.specs.Meaning.{raise_value}
 use Rattle.raising.specs.RaiseLaws.{id_taken, new_payload, stores_new}

@@ -1,12 +1,10 @@
 -- `is_active`: whether the search finds one.
 use mathlib.Core.Path.{◌≡◌, sym, ap, ◌∙◌}
 use mathlib.Core.Option.{Option}
-use borrow.Author.Rules.{rules}
 use Rattle.octets.specs.Bytes.{Bytes}
 use Rattle.definition.specs.Chain.{Entry, present, first}
 use Rattle.definition.specs.Alarm.{Alarm, has_id}
 use Rattle.definition.specs.Sound.{station}
-use Rattle.model.specs.Meaning.{part}
 use Rattle.register.specs.SearchLaws.{finds_first}
 use Rattle.raising.proofs.is_active.Goals as goal
 

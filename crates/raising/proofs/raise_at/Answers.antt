@@ -1,5 +1,4 @@
 -- `raise_at`: an alarm that was found is updated; else a new one is stored.
-use borrow.Author.Rules.{rules}
 use Rattle.register.specs.SearchLaws.{finds_first, finds_release}
 use Rattle.raising.specs.RaiseLaws.{raise_at_found, raise_at_none}
 use Rattle.raising.proofs.raise_at.Goals as goal

@@ -1,7 +1,6 @@
 -- `raise_new`: a full chain is answered with its limit.
 use mathlib.Core.Path.{◌∙◌}
 use native.Mathlib.Omega.{arith}
-use borrow.Author.Rules.{rules}
 use Rattle.history.specs.StandingLaws.{standing_room}
 use Rattle.definition.proofs.Laws.Steps.SoundChains.{active_limit, active_length_lem}
 use Rattle.raise_fields.specs.Meaning.{raise_value}

@@ -6,7 +6,6 @@ use Rattle.definition.specs.Alarm.{with_details}
 use Rattle.record.proofs.Writes.{becomes}
 use Rattle.octets.specs.Bytes.{zeros}
 use Rattle.octets.specs.NumberLaws.{length_zeros}
-use borrow.Author.Rules.{rules}
 use Rattle.record.proofs.no_details.Goals as goal
 
 pub returns : goal.returns

@@ -3,7 +3,6 @@ use native.Mathlib.Omega.{arith}
 use Rattle.octets.specs.SpliceLaws.{marked_splices}
 use Rattle.definition.specs.Slot.{string_bytes}
 use Rattle.definition.proofs.Laws.Record.ChangedSlot.{length_string}
-use borrow.Author.Rules.{rules}
 use Rattle.record.proofs.put_marked.Goals as goal
 
 pub returns : goal.returns

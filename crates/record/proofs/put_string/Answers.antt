@@ -1,6 +1,5 @@
 -- The length, the bytes and the zeros behind them are three splices, one behind the other.
 use Rattle.definition.proofs.Laws.Record.ChangedSlot.{string_splices}
-use borrow.Author.Rules.{rules}
 use Rattle.record.proofs.put_string.Goals as goal
 
 pub returns : goal.returns

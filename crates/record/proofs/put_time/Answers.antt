@@ -3,7 +3,6 @@ use native.Mathlib.Omega.{arith}
 use Rattle.octets.specs.Bytes.{digits}
 use Rattle.octets.specs.NumberLaws.{length_digits}
 use Rattle.octets.specs.SpliceLaws.{marked_splices}
-use borrow.Author.Rules.{rules}
 use Rattle.record.proofs.put_time.Goals as goal
 
 pub returns : goal.returns

@@ -2,7 +2,6 @@
 use mathlib.Core.Path.{◌∙◌, ap₂}
 use mathlib.Core.Bool.{◌&&◌}
 use Rattle.definition.proofs.Laws.Record.Identity.{same_identity_lem}
-use borrow.Author.Rules.{rules}
 use Rattle.record.proofs.same_alarm.Goals as goal
 
 pub returns : goal.returns

@@ -7,7 +7,6 @@ use Rattle.definition.specs.Alarm.{with_cleared}
 use Rattle.record.proofs.Writes.{becomes}
 use Rattle.octets.specs.Bytes.{digits}
 use Rattle.octets.specs.NumberLaws.{length_digits}
-use borrow.Author.Rules.{rules}
 use Rattle.record.proofs.set_cleared.Goals as goal
 
 pub returns : goal.returns

@@ -8,7 +8,6 @@ use Rattle.definition.specs.Alarm.{with_end}
 use Rattle.record.proofs.Writes.{becomes}
 use Rattle.octets.specs.Bytes.{digits}
 use Rattle.octets.specs.NumberLaws.{length_digits}
-use borrow.Author.Rules.{rules}
 use Rattle.record.proofs.set_end.Goals as goal
 
 pub returns : goal.returns

@@ -4,7 +4,6 @@ use mathlib.Core.List.{[], ◌∷◌}
 use native.Mathlib.Omega.{arith}
 use Rattle.definition.specs.Alarm.{with_state}
 use Rattle.record.proofs.Writes.{becomes}
-use borrow.Author.Rules.{rules}
 use Rattle.record.proofs.set_state.Goals as goal
 
 pub returns : goal.returns

@@ -5,7 +5,6 @@ use Rattle.definition.proofs.Laws.Record.ChangedSlot.{length_string}
 use Rattle.definition.specs.Alarm.{with_text}
 use Rattle.record.proofs.Writes.{becomes}
 use Rattle.definition.specs.Slot.{string_bytes}
-use borrow.Author.Rules.{rules}
 use Rattle.record.proofs.set_text.Goals as goal
 
 pub returns : goal.returns

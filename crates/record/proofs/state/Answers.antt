@@ -4,7 +4,6 @@ use native.Mathlib.Omega.{arith}
 use Rattle.definition.specs.Slot.{cut}
 use Rattle.definition.specs.Record.{read_alarm}
 use Rattle.definition.proofs.Laws.Record.Slot.{part_first}
-use borrow.Author.Rules.{rules}
 use Rattle.record.proofs.state.Goals as goal
 
 pub returns : goal.returns

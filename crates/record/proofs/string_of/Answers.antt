@@ -5,7 +5,6 @@ use native.Mathlib.Omega.{arith}
 use lib.ListN.{take, drop}
 use Rattle.definition.specs.Record.{any_bytes}
 use Rattle.definition.proofs.Laws.Record.Slot.{part_lent, string_get, string_all}
-use borrow.Author.Rules.{rules}
 use Rattle.record.proofs.string_of.Goals as goal
 
 pub returns-then-n-m : goal.returns-then-n-m

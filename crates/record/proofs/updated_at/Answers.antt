@@ -1,7 +1,6 @@
 -- The number is the field's.
 use Rattle.definition.specs.Slot.{cut}
 use Rattle.definition.specs.Record.{read_alarm}
-use borrow.Author.Rules.{rules}
 use Rattle.record.proofs.updated_at.Goals as goal
 
 pub returns : goal.returns

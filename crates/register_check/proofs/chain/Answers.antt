@@ -3,7 +3,6 @@ use Prim.Native.Nat.{ℕ, ◌+◌, ◌*◌}
 use mathlib.Core.Path.{◌∙◌, ap, subst₂}
 use Rattle.octets.specs.Bytes.{at32}
 use Rattle.register_check.specs.Meaning.{Walks}
-use borrow.Author.Rules.{rules}
 use Rattle.register_check.proofs.chain.Goals as goal
 
 pub returns : goal.returns

@@ -2,14 +2,9 @@
 -- ---- walks that broke
 -- ---- walks that ended
 -- ---- what the four say
-use mathlib.Core.Path.{◌≡◌, ◌∙◌}
-use borrow.Author.Rules.{rules}
-use borrow.Author.Tests.{not-true, not-false}
-use Rattle.definition.specs.Sound.{sound}
-use Rattle.register_check.specs.Meaning.{Chain}
+use mathlib.Core.Path.{◌∙◌}
 use Rattle.register_check.specs.JudgeLaws.{broken, went, judged, stands}
 use Rattle.register_check.specs.declared.Kind.TheVariants.{Active, History, Audit, Free}
-use Rattle.register_check.specs.declared.Walked.TheVariants.{End}
 use Rattle.register_check.proofs.chains.Goals as goal
 
 pub returns-in_default : goal.returns-in_default

@@ -2,7 +2,6 @@
 use mathlib.Core.Path.{◌∙◌}
 use Rattle.record_check.specs.RulerLaws.{ruler_made}
 use Rattle.register_check.specs.JudgeLaws.{found, wrong_header}
-use borrow.Author.Rules.{rules}
 use Rattle.register_check.proofs.check.Goals as goal
 
 pub returns-in_default : goal.returns-in_default

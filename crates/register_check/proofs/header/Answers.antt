@@ -2,16 +2,12 @@
 -- ---- what the tests said
 -- ---- the ways out
 use Prim.Native.Nat.{ℕ}
-use mathlib.Core.Path.{◌≡◌, subst₃}
+use mathlib.Core.Path.{subst₃}
 use native.Mathlib.Omega.{arith}
-use borrow.Author.Tests.{not-true, not-false}
-use lib.ListN.{take, drop}
-use Rattle.octets.specs.Bytes.{Bytes, zeros, at32}
 use Rattle.definition.proofs.Laws.Book.CheckParts.{confirms, refutes, capacity_read, numbers_of_lem, size_of}
 use Rattle.definition.specs.Clauses.LegalBook.{Limit}
 use Rattle.definition.specs.Clauses.Check.{Decides, Lengths}
 use Rattle.register_check.specs.JudgeLaws.{limits_decide, tail_decides}
-use borrow.Author.Rules.{rules}
 use Rattle.register_check.proofs.header.Goals as goal
 
 pub returns-then-not-are_limits : goal.returns-then-not-are_limits

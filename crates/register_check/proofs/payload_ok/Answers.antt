@@ -2,7 +2,6 @@
 use mathlib.Core.Path.{◌∙◌}
 use Rattle.register_check.specs.WalkLaws.{of_kind, blank_payload}
 use Rattle.register_check.specs.declared.Kind.TheVariants.{Active, History, Audit, Free}
-use borrow.Author.Rules.{rules}
 use Rattle.register_check.proofs.payload_ok.Goals as goal
 
 pub returns-in-Active : goal.returns-in-Active

@@ -1,13 +1,11 @@
 -- At each turn the records passed are of the chain, the rest of the way decides, and the next record is known.
-use mathlib.Core.Path.{◌≡◌, ◌∙◌, sym, ap}
-use borrow.Author.Tests.{not-true, not-false}
+use mathlib.Core.Path.{◌∙◌, sym, ap}
 use Prim.Native.Nat.{◌-◌}
 use borrow.Author.Rules.{rules}
-use Rattle.definition.specs.Book.{record_of}
 use Rattle.definition.proofs.Laws.Book.LinkLoops.{went_zero, went_past, went_stray}
 use Rattle.register.specs.WalkLaws.{content_width}
-use Rattle.register_check.specs.Meaning.{Linked, holds, passes}
-use Rattle.register_check.specs.WalkLaws.{Tested, tested_start, tested_on, tested_not, tested_end}
+use Rattle.register_check.specs.Meaning.{holds}
+use Rattle.register_check.specs.WalkLaws.{tested_start, tested_on, tested_not, tested_end}
 use Rattle.register_check.proofs.walk.Goals as goal
 
 pub loop-k-init : goal.loop-k-init

@@ -1,5 +1,4 @@
 -- `requires_explicit_suppression_policy`: critical, or else of a guarded cause.
-use borrow.Author.Rules.{rules}
 use borrow.Author.Tests.{eq-eqb, ne_eqb}
 use mathlib.Core.Path.{ap, ◌∙◌}
 use Rattle.definition.specs.Alarm.{guarded, is_critical}

@@ -1,9 +1,8 @@
 -- `sha256::blocks` meets its contract. The loop's invariant: s is the hash value after i blocks.
-use Rattle.std.proofs.Common.{◌≡◌, ◌+◌, ◌-◌, ◌/◌, ◌≤◌, length, sym, refl, ap, ◌∙◌, arith, rules}
-use Rattle.fips180.specs.Sha256.{initial, padded, blocks_of}
+use Rattle.std.proofs.Common.{◌≡◌, ◌+◌, ◌/◌, length, sym, refl, ap, ◌∙◌, arith}
+use Rattle.fips180.specs.Sha256.{initial, blocks_of}
 use Rattle.fips180.specs.StepLaws.{blocks_more}
 use Rattle.fips180.specs.PaddingLaws.{blocks_count}
-use Rattle.sha256.specs.HashOf.{hash_of}
 use Rattle.sha256.proofs.blocks.Goals as goal
 
 pub loop-i-init : goal.loop-i-init

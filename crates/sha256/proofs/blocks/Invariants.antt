@@ -1,8 +1,6 @@
 -- `sha256::blocks` meets its contract. The loop's invariant: s is the hash value after i blocks.
-use Rattle.std.proofs.Common.{◌≡◌, ◌+◌, ◌-◌, ◌/◌, ◌≤◌, length, sym, refl, ap, ◌∙◌, arith, rules}
-use Rattle.fips180.specs.Sha256.{initial, padded, blocks_of}
-use Rattle.fips180.specs.StepLaws.{blocks_more}
-use Rattle.fips180.specs.PaddingLaws.{blocks_count}
+use Rattle.std.proofs.Common.{◌≡◌, ◌-◌, ◌≤◌}
+use Rattle.fips180.specs.Sha256.{padded, blocks_of}
 use Rattle.sha256.specs.HashOf.{hash_of}
 use Rattle.sha256.proofs.blocks.Given as goal
 

@@ -1,5 +1,5 @@
 -- `sha256::digest` meets its contract. The loop's invariant: the first 4 i bytes are those of the first i words.
-use Rattle.std.proofs.Common.{◌≡◌, ◌-◌, ◌*◌, ◌≤◌, length, take, sym, refl, ◌∙◌, arith, take_all, rules}
+use Rattle.std.proofs.Common.{◌≡◌, sym, refl, ◌∙◌, arith, take_all}
 use Rattle.octets.specs.Bytes.{digits}
 use Rattle.fips180.specs.Sha256.{digest_of}
 use Rattle.sha256.proofs.WordBytes.{word_bytes, put_more}

@@ -1,6 +1,6 @@
 -- `sha256::first_words` meets its contract. The loop's invariant: the first i words are those of the block.
-use Rattle.std.proofs.Common.{◌≡◌, ◌-◌, ◌≤◌, length, take, refl, arith, length-set, rules}
-use Rattle.fips180.specs.Sha256.{padded, words_of}
+use Rattle.std.proofs.Common.{◌≡◌, refl, arith, length-set}
+use Rattle.fips180.specs.Sha256.{words_of}
 use Rattle.fips180.specs.StepLaws.{words_more}
 use Rattle.sha256.proofs.first_words.Goals as goal
 

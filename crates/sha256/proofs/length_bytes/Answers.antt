@@ -1,5 +1,5 @@
 -- `sha256::length_bytes` meets its contract. All eight bytes are replaced.
-use Rattle.std.proofs.Common.{◌∙◌, rules}
+use Rattle.std.proofs.Common.{◌∙◌}
 use Rattle.octets.specs.NumberLaws.{length_digits}
 use Rattle.octets.specs.SpliceLaws.{splice_whole}
 use Rattle.fips180.specs.PaddingLaws.{length_bits}

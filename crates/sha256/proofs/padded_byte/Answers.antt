@@ -1,5 +1,5 @@
 -- `sha256::padded_byte` meets its contract. Each return is one part of the padding.
-use Rattle.std.proofs.Common.{◌≡◌, ℕ, ◌+◌, ◌-◌, ◌*◌, ◌/◌, List, length, get_or, sym, ap, ◌∙◌, arith, rules}
+use Rattle.std.proofs.Common.{◌≡◌, ℕ, ◌+◌, ◌-◌, ◌*◌, ◌/◌, List, length, get_or, sym, ap, ◌∙◌, arith}
 use Rattle.fips180.specs.Sha256.{padded}
 use Rattle.fips180.specs.PaddingLaws.{padded_message, padded_mark, padded_past, padded_zero, padded_length}
 use Rattle.sha256.proofs.padded_byte.Goals as goal

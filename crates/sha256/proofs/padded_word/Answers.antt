@@ -1,5 +1,5 @@
 -- `sha256::padded_word` meets its contract. The four bytes are those of the word.
-use Rattle.std.proofs.Common.{arith, rules}
+use Rattle.std.proofs.Common.{arith}
 use Rattle.octets.specs.Bytes.{Bytes}
 use Rattle.fips180.specs.Sha256.{padded}
 use Rattle.fips180.specs.PaddingLaws.{length_padded, at32_bytes}

@@ -1,8 +1,7 @@
 -- `sha256::rounds` meets its contract. The loop's invariant: after t turns v is the state after t rounds.
-use Rattle.std.proofs.Common.{◌≡◌, ◌-◌, ◌≤◌, refl, ap, ◌∙◌, arith, rules}
+use Rattle.std.proofs.Common.{◌≡◌, refl, ap, ◌∙◌, arith}
 use Rattle.fips180.specs.Sha256.{constants, rounds_of}
 use Rattle.fips180.specs.StepLaws.{rounds_more}
-use Rattle.sha256.specs.HashOf.{hash_of}
 use Rattle.sha256.proofs.rounds.Goals as goal
 
 pub loop-t-init : goal.loop-t-init

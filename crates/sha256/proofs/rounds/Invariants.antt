@@ -1,7 +1,6 @@
 -- `sha256::rounds` meets its contract. The loop's invariant: after t turns v is the state after t rounds.
-use Rattle.std.proofs.Common.{◌≡◌, ◌-◌, ◌≤◌, refl, ap, ◌∙◌, arith, rules}
-use Rattle.fips180.specs.Sha256.{constants, rounds_of}
-use Rattle.fips180.specs.StepLaws.{rounds_more}
+use Rattle.std.proofs.Common.{◌≡◌, ◌-◌, ◌≤◌}
+use Rattle.fips180.specs.Sha256.{rounds_of}
 use Rattle.sha256.specs.HashOf.{hash_of}
 use Rattle.sha256.proofs.rounds.Given as goal
 

@@ -1,7 +1,6 @@
 -- `sha256::schedule` meets its contract. The loop's invariant: the first t words are those of the schedule.
-use Rattle.std.proofs.Common.{◌≡◌, ◌-◌, ◌≤◌, length, take, sym, refl, ◌∙◌, arith, length-set, take_all, rules}
-use Rattle.fips180.specs.Sha256.{next_word, schedule_of}
-use Rattle.fips180.specs.StepLaws.{schedule_more}
+use Rattle.std.proofs.Common.{◌≡◌, ◌-◌, ◌≤◌, length, take}
+use Rattle.fips180.specs.Sha256.{schedule_of}
 use Rattle.sha256.proofs.schedule.Given as goal
 
 abbrev pub invariant-loop-t : goal.invariant-loop-t

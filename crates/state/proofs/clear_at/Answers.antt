@@ -1,6 +1,5 @@
 -- `clear_at`: an alarm that was found is cleared; else there is none to clear.
 use mathlib.Core.Path.{refl}
-use borrow.Author.Rules.{rules}
 use Rattle.register.specs.SearchLaws.{finds_first, finds_release}
 use Rattle.state.specs.ClearLaws.{clear_at_found, clear_at_none}
 use Rattle.state.proofs.clear_at.Goals as goal

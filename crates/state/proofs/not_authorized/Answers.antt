@@ -1,6 +1,5 @@
 -- `not_authorized`: the message of the action.
 use mathlib.Core.Path.{refl, sym, ap, ◌∙◌}
-use borrow.Author.Rules.{rules}
 use Rattle.octets.specs.PutLaws.{put_as}
 use Rattle.definition.specs.Value.{acknowledging, suppressing}
 use Rattle.definition.specs.Steps.{not_authorized}

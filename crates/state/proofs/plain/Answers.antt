@@ -4,7 +4,6 @@ use Rattle.octets.specs.Bytes.{Bytes}
 use Rattle.definition.specs.Steps.{plain}
 use Rattle.state.specs.Meaning.{plain_of}
 use native.Mathlib.Omega.{arith}
-use borrow.Author.Rules.{rules}
 use Rattle.model.specs.Meaning.{action_of}
 use Rattle.model.specs.PartLaws.{part_short}
 use Rattle.state.specs.ActLaws.{answers_as, unauthorised}

@@ -1,6 +1,5 @@
 -- `plain_on`: the alarm is acted on where it is found.
 use mathlib.Core.Path.{refl}
-use borrow.Author.Rules.{rules}
 use Rattle.register.specs.SearchLaws.{finds_first, finds_release}
 use Rattle.model.specs.Meaning.{action_of}
 use Rattle.state.specs.ActLaws.{on_found, on_none}

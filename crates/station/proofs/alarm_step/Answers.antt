@@ -1,6 +1,5 @@
 -- `alarm_step`: the step's reply, as it is told.
 use mathlib.Core.Path.{◌∙◌}
-use borrow.Author.Rules.{rules}
 use Rattle.station.proofs.alarm_step.Goals as goal
 
 pub returns : goal.returns

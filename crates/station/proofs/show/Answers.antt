@@ -1,5 +1,4 @@
 -- `show`: soundness first, and then the block.
-use borrow.Author.Rules.{rules}
 use Rattle.panel.specs.Meaning.{call_of}
 use Rattle.station.specs.PanelLaws.{shown, not_shown}
 use Rattle.station.proofs.Checked.{checked}

@@ -1,7 +1,6 @@
 -- `step`: soundness first, and then the call.
 use mathlib.Core.Path.{sym, subst}
 use native.Mathlib.Omega.{arith}
-use borrow.Author.Rules.{rules}
 use lib.ListN.{length}
 use Rattle.definition.specs.Value.{CallValue}
 use Rattle.definition.specs.Clauses.LegalFields.{LegalCall}

@@ -6,7 +6,6 @@ use Rattle.octets.specs.PutLaws.{put_as, put_front}
 use Rattle.definition.specs.Key.{string}
 use Rattle.strings.specs.StoredLength.{name_length}
 use Rattle.strings.proofs.Stored.{name_put}
-use borrow.Author.Rules.{rules}
 use Rattle.strings.proofs.put_name.Goals as goal
 
 pub slice_bounds-name-end : goal.slice_bounds-name-end

@@ -1,7 +1,6 @@
 -- `put_other` meets its contract: a length, `other:`, and the name behind it.
 use native.Mathlib.Omega.{arith}
 use Rattle.strings.proofs.Stored.{other_put}
-use borrow.Author.Rules.{rules}
 use Rattle.strings.proofs.put_other.Goals as goal
 
 pub returns : goal.returns

@@ -1,7 +1,6 @@
 -- `put_string` meets its contract: the bytes stand behind their length.
 use native.Mathlib.Omega.{arith}
 use Rattle.definition.proofs.Laws.Text.PutString.{put_string}
-use borrow.Author.Rules.{rules}
 use Rattle.strings.proofs.put_string.Goals as goal
 
 pub returns : goal.returns

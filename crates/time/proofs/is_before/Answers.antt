@@ -1,5 +1,5 @@
 -- Adding the least time's bits brings times into the order of their numbers.
-use Rattle.std.proofs.Common.{ltb, ap₂, rules}
+use Rattle.std.proofs.Common.{ltb, ap₂}
 use Rattle.definition.specs.Alarm.{before}
 use Rattle.time.proofs.is_before.Goals as goal
 

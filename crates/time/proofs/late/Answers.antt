@@ -1,5 +1,5 @@
 -- The test is the definition's.
-use Rattle.std.proofs.Common.{sym, ◌∙◌, rules}
+use Rattle.std.proofs.Common.{sym, ◌∙◌}
 use Rattle.definition.specs.Alarm.{late}
 use Rattle.time.proofs.late.Goals as goal
 

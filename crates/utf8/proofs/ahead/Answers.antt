@@ -1,6 +1,5 @@
 -- Eight bytes of ASCII, or the first character.
 use mathlib.Core.Path.{◌∙◌, sym}
-use borrow.Author.Rules.{rules}
 use Rattle.utf8.specs.Meaning.{ahead}
 use Rattle.utf8.proofs.ahead.Goals as goal
 

@@ -1,11 +1,8 @@
 -- At each place the bytes passed are tails: the bytes left decide.
-use mathlib.Core.Path.{◌≡◌, ◌∙◌, sym}
-use Prim.Native.Nat.{◌≤◌, ◌-◌}
+use mathlib.Core.Path.{◌∙◌, sym}
 use native.Mathlib.Omega.{arith}
 use borrow.Author.Rules.{rules}
-use lib.ListN.{length, drop}
 use Rattle.definition.specs.Utf8.{tail}
-use Rattle.utf8.specs.Meaning.{all_inside}
 use Rattle.utf8.proofs.Rows.{inside_low, inside_high, inside_range, inside_next, inside_not, inside_end}
 use Rattle.utf8.proofs.are_tails.Goals as goal
 

@@ -1,12 +1,9 @@
 -- At each place the bytes passed are tails: the bytes left decide.
-use mathlib.Core.Path.{◌≡◌, ◌∙◌, sym}
+use mathlib.Core.Path.{◌≡◌}
 use Prim.Native.Nat.{◌≤◌, ◌-◌}
-use native.Mathlib.Omega.{arith}
-use borrow.Author.Rules.{rules}
 use lib.ListN.{length, drop}
 use Rattle.definition.specs.Utf8.{tail}
 use Rattle.utf8.specs.Meaning.{all_inside}
-use Rattle.utf8.proofs.Rows.{inside_low, inside_high, inside_range, inside_next, inside_not, inside_end}
 use Rattle.utf8.proofs.are_tails.Given as goal
 
 abbrev pub invariant-loop-i : goal.invariant-loop-i

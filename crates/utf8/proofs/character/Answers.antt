@@ -1,7 +1,6 @@
 -- The rows in the order in which the match is compiled: single first bytes, then ranges of them.
 use mathlib.Core.Path.{◌∙◌}
 use native.Mathlib.Omega.{arith}
-use borrow.Author.Rules.{rules}
 use Rattle.definition.proofs.Laws.Text.Utf8.{rests}
 use Rattle.utf8.proofs.Rows.{row_on, row_none, row_ascii, row_end}
 use Rattle.utf8.proofs.character.Goals as goal

@@ -1,6 +1,5 @@
 -- ASCII is UTF-8, a code point a byte, and all else is tested as a run.
 use mathlib.Core.Path.{◌∙◌, sym}
-use borrow.Author.Rules.{rules}
 use Rattle.octets.specs.BoolLaws.{true_holds}
 use Rattle.utf8.specs.PlainLaws.{plain_rows}
 use Rattle.utf8.proofs.check.Goals as goal

@@ -1,7 +1,6 @@
 -- A run has a row for each byte that is no tail; all else is ill-formed.
 use mathlib.Core.Path.{sym, ap, ◌∙◌}
 use mathlib.Core.Option.{some}
-use borrow.Author.Rules.{rules}
 use Rattle.utf8.specs.LeadLaws.{run_counted, no_run}
 use Rattle.utf8.proofs.form_of.Goals as goal
 

@@ -1,6 +1,5 @@
 -- The number that a well-formed string tells.
 use mathlib.Core.Path.{sym, ap}
-use borrow.Author.Rules.{rules}
 use Rattle.definition.specs.Utf8.{at_most}
 use Rattle.utf8.specs.Meaning.{counted}
 use Rattle.utf8.specs.declared.Form.{Form}

@@ -1,10 +1,7 @@
 -- The bytes passed, joined by or, are below 128 where each of them is.
-use mathlib.Core.Path.{◌≡◌, ◌∙◌, ap, refl}
-use Prim.Native.Nat.{◌≤◌, ◌-◌}
+use mathlib.Core.Path.{◌∙◌, ap, refl}
 use native.Mathlib.Omega.{arith}
 use borrow.Author.Rules.{rules}
-use lib.Dec.{ltb}
-use lib.ListN.{length, take}
 use lib.Seq.{take_all}
 use Rattle.utf8.specs.Meaning.{plain}
 use Rattle.utf8.proofs.Plain.{plain_step}

@@ -1,10 +1,7 @@
 -- At each place the bytes left are a run where s is one.
-use mathlib.Core.Path.{◌≡◌, ◌∙◌, refl}
-use Prim.Native.Nat.{◌≤◌, ◌-◌}
+use mathlib.Core.Path.{◌∙◌, refl}
 use native.Mathlib.Omega.{arith}
 use borrow.Author.Rules.{rules}
-use lib.ListN.{length, drop}
-use Rattle.definition.specs.Utf8.{utf8}
 use Rattle.utf8.proofs.Runs.{goes_on, goes_nowhere, goes_end}
 use Rattle.utf8.proofs.is_run.Goals as goal
 

@@ -1,11 +1,8 @@
 -- At each place the bytes left are a run where s is one.
-use mathlib.Core.Path.{◌≡◌, ◌∙◌, refl}
+use mathlib.Core.Path.{◌≡◌}
 use Prim.Native.Nat.{◌≤◌, ◌-◌}
-use native.Mathlib.Omega.{arith}
-use borrow.Author.Rules.{rules}
 use lib.ListN.{length, drop}
 use Rattle.definition.specs.Utf8.{utf8}
-use Rattle.utf8.proofs.Runs.{goes_on, goes_nowhere, goes_end}
 use Rattle.utf8.proofs.is_run.Given as goal
 
 abbrev pub invariant-loop-i : goal.invariant-loop-i

@@ -1,5 +1,4 @@
 -- Below the tails, above them, or one of them.
-use borrow.Author.Rules.{rules}
 use Rattle.definition.specs.Utf8.{tail}
 use Rattle.utf8.proofs.Rows.{inside_low, inside_high, inside_range}
 use Rattle.utf8.proofs.lead.Goals as goal

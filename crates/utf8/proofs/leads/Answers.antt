@@ -1,10 +1,7 @@
 -- At each place those passed are counted, and those left are still to come.
-use mathlib.Core.Path.{◌≡◌}
-use Prim.Native.Nat.{◌+◌, ◌-◌, ◌≤◌}
 use native.Mathlib.Omega.{arith}
 use borrow.Author.Rules.{rules}
-use lib.ListN.{length, get_or, drop}
-use Rattle.utf8.specs.Meaning.{leads_in}
+use lib.ListN.{get_or}
 use Rattle.utf8.specs.LeadLaws.{leads_next, lead_le, leads_end}
 use Rattle.utf8.proofs.leads.Goals as goal
 

@@ -1,5 +1,4 @@
 -- Each kind in its slot: its parts are those of the object that the code has met.
-use borrow.Author.Rules.{rules}
 use Rattle.build.proofs.about.object_into.Goals as goal
 
 pub pair_into-requires : goal.pair_into-requires

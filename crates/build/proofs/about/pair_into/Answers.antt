@@ -6,7 +6,6 @@ use Rattle.definition.specs.Record.{short}
 use Rattle.definition.proofs.Laws.Record.ChangedSlot.{length_string}
 use Rattle.model.specs.Meaning.{part}
 use Rattle.build.proofs.Lent.{object_laid}
-use borrow.Author.Rules.{rules}
 use Rattle.build.proofs.about.pair_into.Goals as goal
 
 pub returns : goal.returns

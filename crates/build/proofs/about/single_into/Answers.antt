@@ -3,7 +3,6 @@ use Rattle.octets.specs.Bytes.{zeros}
 use Rattle.octets.specs.NumberLaws.{length_zeros}
 use Rattle.model.specs.Meaning.{part}
 use Rattle.build.proofs.Lent.{object_laid}
-use borrow.Author.Rules.{rules}
 use Rattle.build.proofs.about.single_into.Goals as goal
 
 pub returns : goal.returns

@@ -4,7 +4,6 @@ use Rattle.definition.specs.Record.{short}
 use Rattle.definition.proofs.Laws.Record.Payloads.{is_place}
 use Rattle.model.specs.Meaning.{part, opt_part}
 use Rattle.build.proofs.Lent.{object_laid}
-use borrow.Author.Rules.{rules}
 use Rattle.build.proofs.about.store_into.Goals as goal
 
 pub returns : goal.returns

@@ -2,7 +2,6 @@
 use mathlib.Core.Path.{ap₂, sym}
 use mathlib.Core.Bool.{◌||◌}
 use Rattle.cause.proofs.Places.{one_by_length, elsewhere}
-use borrow.Author.Rules.{rules}
 use Rattle.cause.proofs.names.is_one.Goals as goal
 
 pub returns-in-10 : goal.returns-in-10

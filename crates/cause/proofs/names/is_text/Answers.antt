@@ -1,11 +1,6 @@
 -- The bytes passed are the same where the or of what they differ in is zero.
-use mathlib.Core.Path.{◌≡◌, ◌∙◌, sym}
-use mathlib.Core.Bool.{◌&&◌}
-use Prim.Native.Nat.{◌≤◌, ◌-◌}
+use mathlib.Core.Path.{◌∙◌, sym}
 use native.Mathlib.Omega.{arith}
-use lib.Dec.{eqb}
-use lib.ListN.{length, drop}
-use Rattle.octets.specs.Bytes.{same}
 use Rattle.octets.specs.BoolLaws.{and_true}
 use Rattle.octets.specs.SameLaws.{same_lengths, same_end}
 use Rattle.cause.proofs.Xor.{xor_step}

@@ -1,15 +1,10 @@
 -- The bytes passed are the same where the or of what they differ in is zero.
-use mathlib.Core.Path.{◌≡◌, ◌∙◌, sym}
+use mathlib.Core.Path.{◌≡◌}
 use mathlib.Core.Bool.{◌&&◌}
 use Prim.Native.Nat.{◌≤◌, ◌-◌}
-use native.Mathlib.Omega.{arith}
 use lib.Dec.{eqb}
 use lib.ListN.{length, drop}
 use Rattle.octets.specs.Bytes.{same}
-use Rattle.octets.specs.BoolLaws.{and_true}
-use Rattle.octets.specs.SameLaws.{same_lengths, same_end}
-use Rattle.cause.proofs.Xor.{xor_step}
-use borrow.Author.Rules.{rules}
 use Rattle.cause.proofs.names.is_text.Given as goal
 
 abbrev pub invariant-loop-i : goal.invariant-loop-i

@@ -1,6 +1,5 @@
 -- Each arm looks at all names of its length, and no name has another.
 use Rattle.cause.proofs.Places.{by_length, elsewhere}
-use borrow.Author.Rules.{rules}
 use Rattle.cause.proofs.names.name.Goals as goal
 
 pub returns-in-10 : goal.returns-in-10

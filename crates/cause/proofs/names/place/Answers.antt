@@ -1,6 +1,5 @@
 -- The place is given where the text is s.
 use mathlib.Core.Path.{◌∙◌, sym}
-use borrow.Author.Rules.{rules}
 use Rattle.cause.proofs.names.place.Goals as goal
 
 pub returns-then-is_text : goal.returns-then-is_text

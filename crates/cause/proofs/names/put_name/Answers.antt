@@ -1,6 +1,5 @@
 -- Each arm puts the name at its place.
 use Rattle.cause.proofs.Places.{at_place, last_place}
-use borrow.Author.Rules.{rules}
 use Rattle.cause.proofs.names.put_name.Goals as goal
 
 pub returns-in-0 : goal.returns-in-0

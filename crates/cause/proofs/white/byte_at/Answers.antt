@@ -1,7 +1,6 @@
 -- The byte at a place, 0 past the end.
 use mathlib.Core.Path.{sym}
 use lib.ListN.{get_or-eq_default}
-use borrow.Author.Rules.{rules}
 use Rattle.cause.proofs.white.byte_at.Goals as goal
 
 pub returns-else-i-s : goal.returns-else-i-s

@@ -5,7 +5,6 @@ use native.Mathlib.Omega.{arith}
 use Rattle.octets.specs.Bytes.{begins}
 use Rattle.octets.specs.RangeLaws.{eq_on}
 use Rattle.definition.specs.White.{space, front_of}
-use borrow.Author.Rules.{rules}
 use Rattle.cause.proofs.white.space3.Goals as goal
 
 pub returns-then-a-eq194 : goal.returns-then-a-eq194

@@ -1,6 +1,5 @@
 -- White space lies within s.
 use native.Mathlib.Omega.{arith}
-use borrow.Author.Rules.{rules}
 use Rattle.cause.proofs.Trim.{space_part}
 use Rattle.cause.proofs.white.space_at.Goals as goal
 

@@ -3,7 +3,6 @@ use mathlib.Core.Path.{sym}
 use borrow.Author.Tests.{ne_eqb}
 use Rattle.octets.specs.Bytes.{begins}
 use Rattle.definition.specs.White.{space, front_of}
-use borrow.Author.Rules.{rules}
 use Rattle.cause.proofs.white.space_e2.Goals as goal
 
 pub returns-then-b-eq128 : goal.returns-then-b-eq128

@@ -2,7 +2,6 @@
 use Rattle.definition.proofs.Laws.Text.White.{space_front}
 use mathlib.Core.Path.{◌∙◌, sym}
 use lib.ListN.{get_or}
-use borrow.Author.Rules.{rules}
 use Rattle.cause.proofs.white.space_len.Goals as goal
 
 pub returns-then-a-lt194 : goal.returns-then-a-lt194

@@ -1,10 +1,7 @@
 -- `end` is behind the last byte passed that stays; what lies between `end` and i is white space.
-use mathlib.Core.Path.{◌≡◌, ◌∙◌, sym}
-use Prim.Native.Nat.{◌-◌, ◌≤◌}
+use mathlib.Core.Path.{◌∙◌, sym}
 use native.Mathlib.Omega.{arith}
-use lib.ListN.{length}
-use Rattle.definition.specs.White.{end_from}
-use Rattle.cause.proofs.Trim.{end_step, up_none, up_plain, up_end, up_to}
+use Rattle.cause.proofs.Trim.{end_step, up_none, up_plain, up_end}
 use borrow.Author.Rules.{rules}
 use Rattle.cause.proofs.white.trim_end.Goals as goal
 

@@ -1,11 +1,9 @@
 -- `end` is behind the last byte passed that stays; what lies between `end` and i is white space.
-use mathlib.Core.Path.{◌≡◌, ◌∙◌, sym}
+use mathlib.Core.Path.{◌≡◌}
 use Prim.Native.Nat.{◌-◌, ◌≤◌}
-use native.Mathlib.Omega.{arith}
 use lib.ListN.{length}
 use Rattle.definition.specs.White.{end_from}
-use Rattle.cause.proofs.Trim.{end_step, up_none, up_plain, up_end, up_to}
-use borrow.Author.Rules.{rules}
+use Rattle.cause.proofs.Trim.{up_to}
 use Rattle.cause.proofs.white.trim_end.Given as goal
 
 abbrev pub invariant-loop-i : goal.invariant-loop-i

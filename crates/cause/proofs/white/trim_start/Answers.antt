@@ -1,9 +1,6 @@
 -- White space is passed from the start on; what is left trims to the same.
-use mathlib.Core.Path.{◌≡◌, ◌∙◌, sym}
-use Prim.Native.Nat.{◌-◌, ◌≤◌}
+use mathlib.Core.Path.{◌∙◌, sym}
 use native.Mathlib.Omega.{arith}
-use lib.ListN.{length, drop}
-use Rattle.definition.specs.White.{start_from}
 use Rattle.definition.proofs.Laws.Text.White.{start_plain}
 use Rattle.cause.proofs.Trim.{start_step, start_end}
 use borrow.Author.Rules.{rules}

@@ -1,12 +1,8 @@
 -- White space is passed from the start on; what is left trims to the same.
-use mathlib.Core.Path.{◌≡◌, ◌∙◌, sym}
+use mathlib.Core.Path.{◌≡◌}
 use Prim.Native.Nat.{◌-◌, ◌≤◌}
-use native.Mathlib.Omega.{arith}
 use lib.ListN.{length, drop}
 use Rattle.definition.specs.White.{start_from}
-use Rattle.definition.proofs.Laws.Text.White.{start_plain}
-use Rattle.cause.proofs.Trim.{start_step, start_end}
-use borrow.Author.Rules.{rules}
 use Rattle.cause.proofs.white.trim_start.Given as goal
 
 abbrev pub invariant-loop-i : goal.invariant-loop-i

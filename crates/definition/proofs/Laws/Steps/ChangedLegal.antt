@@ -1,6 +1,6 @@
 -- Each change of an alarm keeps its fields legal, and the events that steps make have legal fields. For the laws of steps, and for the code of
 -- these changes (`raising`, `state`, `expiry`, `history`, `build`).
-use Rattle.std.specs.Prelude.{ℕ, ◌+◌, ◌≤◌, ◌≡◌, refl, Bool, true, false, cond, leb, ltb}
+use Rattle.std.specs.Prelude.{ℕ, ◌≤◌, ◌≡◌, refl, Bool, true, false, cond, leb, ltb}
 use Rattle.std.proofs.Math.Option.{Option, none, some}
 use Rattle.std.proofs.Common.{arith, ltb-true}
 use Rattle.octets.specs.Bytes.{Bytes}

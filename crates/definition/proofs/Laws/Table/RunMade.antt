@@ -1,5 +1,5 @@
 -- What the definition runs, as calls that were made: so the claims on lists of calls speak of every list. For YearlyBalance and WrongSeverity.
-use Rattle.std.specs.Prelude.{ℕ, ◌≡◌, refl, List, [], ◌∷◌, map, T, length, replicate}
+use Rattle.std.specs.Prelude.{ℕ, ◌≡◌, refl, List, [], ◌∷◌, map, T, replicate}
 use Rattle.std.proofs.Common.{ap₂}
 use Rattle.std.proofs.lemmas.List.{length-replicate}
 use Rattle.octets.specs.Bytes.{Bytes, splice}

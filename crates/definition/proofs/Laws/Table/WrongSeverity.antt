@@ -2,11 +2,11 @@
 -- definition runs.
 use Rattle.std.specs.Prelude.{ℕ, ◌≤◌, ◌≡◌, refl, List, [], ◌∷◌, T}
 use Rattle.std.proofs.Common.{ap, arith}
-use Rattle.octets.specs.Bytes.{Bytes, ascii, number_at, at32}
+use Rattle.octets.specs.Bytes.{Bytes, ascii, at32}
 use Rattle.definition.specs.Parse.{severity_or_all}
 use Rattle.definition.specs.Answer.{alarm_records}
 use Rattle.definition.specs.Reports.{active_list}
-use Rattle.definition.specs.Lists.{Reply, run}
+use Rattle.definition.specs.Lists.{run}
 use Rattle.definition.specs.Twins.{AtEach}
 use Rattle.definition.specs.Claim.{Fresh, Made}
 use Rattle.definition.specs.Reach.{before_severity, SeverityApart, OneApart, MadeApart, BoundedAfter}

@@ -1,6 +1,6 @@
 -- M-113: the reach of one wrong severity, on whole lists. Before the raise both lists keep one register; the raise leaves two that are near, and
 -- every later call leaves them so. For the theorem in `station`.
-use Rattle.std.specs.Prelude.{ℕ, zero, suc, ◌≡◌, refl, List, [], ◌∷◌, ◌++◌, map, Bool, true, false, ◌&&◌, ◌||◌, T, eqb, length, drop}
+use Rattle.std.specs.Prelude.{ℕ, zero, suc, ◌≡◌, refl, List, [], ◌∷◌, ◌++◌, map, Bool, false, ◌&&◌, T, eqb, length, drop}
 use Rattle.std.proofs.Common.{sym, ap, ◌∙◌, subst, arith, length-append, ne_eqb}
 use Rattle.octets.specs.Bytes.{Bytes}
 use Rattle.definition.specs.Station.{fresh}

@@ -1,8 +1,8 @@
 -- M-104: that both limits are met follows from a raise's being read without a fault, and it is all that is asked of differing texts.
-use Rattle.std.specs.Prelude.{ℕ, ◌<◌, ◌≤◌, ◌^◌, ◌≡◌, refl, [], ◌∷◌, ◌++◌, true, T, length}
-use Rattle.std.proofs.Common.{sym, ap, ◌∙◌, subst, append_assoc, arith, length-append, take_at, drop_at, le-leb}
+use Rattle.std.specs.Prelude.{ℕ, ◌<◌, ◌≤◌, ◌≡◌, refl, ◌∷◌, ◌++◌, true, T, length}
+use Rattle.std.proofs.Common.{subst, append_assoc, arith, length-append, take_at, drop_at, le-leb}
 use Rattle.std.proofs.Math.Option.{Option, none, some}
-use Rattle.octets.specs.Bytes.{Bytes, Octets, value_from, be32}
+use Rattle.octets.specs.Bytes.{Bytes, value_from, be32}
 use Rattle.octets.specs.BoolLaws.{holds}
 use Rattle.octets.specs.NumberLaws.{length_be32, value_digits}
 use Rattle.definition.specs.Limits.{text_limit, details_limit, code_point_limit}
@@ -12,7 +12,7 @@ use Rattle.definition.specs.Value.{KeyValue, RaiseHeadValue, RaiseValue}
 use Rattle.definition.specs.Reader as Reader
 use Rattle.definition.specs.Reader.{Out, got, bad, Reader, next, ◌>>=◌, bytes, number, choice, blob, text}
 use Rattle.definition.specs.Parse.{raise_text, raise_body}
-use Rattle.definition.specs.Twins.{before_text, ReadRaise, TwinRaises, MeetsLimits, texts_of, DetailsFit, TextLimits}
+use Rattle.definition.specs.Twins.{ReadRaise, MeetsLimits, texts_of, DetailsFit, TextLimits}
 use Rattle.definition.specs.Clauses.LegalFields.{BlobOf}
 use Rattle.definition.proofs.Laws.Text.ParsedFields.{Given, gave, refuses, Reads, give_reads, bind_reads, blob_reads, optional_reads, raise_text_reads}
 use Rattle.definition.proofs.Laws.Twins.ReadTwins.{before_text_local, elsewhere}

@@ -1,5 +1,4 @@
 -- `obeys` meets its contract: UTF-8, or any bytes.
-use borrow.Author.Rules.{rules}
 use Rattle.utf8.specs.FormLaws.{yes_or_no}
 use Rattle.fields.proofs.part.obeys.Goals as goal
 

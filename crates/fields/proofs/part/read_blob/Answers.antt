@@ -4,7 +4,6 @@ use Rattle.definition.specs.Reader.{blob}
 use Rattle.fields.specs.BytesLaws.{bytes_from_refused}
 use Rattle.fields.specs.CursorLaws.{step, tested}
 use Rattle.fields.specs.PartLaws.{begun, whole}
-use borrow.Author.Rules.{rules}
 use Rattle.fields.proofs.part.read_blob.Goals as goal
 
 pub returns : goal.returns

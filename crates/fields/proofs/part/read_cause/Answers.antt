@@ -10,7 +10,6 @@ use Rattle.cause.specs.Meaning.{cause_value, cause_fits}
 use Rattle.cause.specs.declared.Cause.{Cause}
 use Rattle.fields.specs.CursorLaws.{done, step, tested}
 use Rattle.fields.specs.PartLaws.{begun, whole, refused_whole}
-use borrow.Author.Rules.{rules}
 use Rattle.fields.proofs.part.read_cause.Goals as goal
 
 -- what `cause_of` answered of the string, in the case that was found

@@ -2,7 +2,6 @@
 use Rattle.definition.specs.Reader.{choice}
 use Rattle.fields.specs.CursorLaws.{done, step, tested}
 use Rattle.fields.specs.PartLaws.{begun, refused_whole}
-use borrow.Author.Rules.{rules}
 use Rattle.fields.proofs.part.read_choice.Goals as goal
 
 pub returns : goal.returns

@@ -5,7 +5,6 @@ use Rattle.model.specs.PartLaws.{part_short}
 use Rattle.fields.specs.BytesLaws.{below_power}
 use Rattle.fields.specs.CursorLaws.{done, step}
 use Rattle.fields.specs.PartLaws.{begun, whole}
-use borrow.Author.Rules.{rules}
 use Rattle.fields.proofs.part.read_number.Goals as goal
 
 pub number-requires : goal.number-requires

@@ -3,7 +3,6 @@ use borrow.Author.Tests.{eq-eqb, ne_eqb}
 use Rattle.definition.specs.Reader.{optional}
 use Rattle.fields.specs.CursorLaws.{done, step}
 use Rattle.fields.specs.PartLaws.{begun, whole}
-use borrow.Author.Rules.{rules}
 use Rattle.fields.proofs.part.read_option.Goals as goal
 
 pub returns-then-b-eq0 : goal.returns-then-b-eq0

@@ -4,7 +4,6 @@ use Rattle.definition.specs.Reader.{text}
 use Rattle.definition.specs.Parse.{raise_text}
 use Rattle.fields.specs.CursorLaws.{done, step, tested}
 use Rattle.fields.specs.PartLaws.{begun, refused_whole}
-use borrow.Author.Rules.{rules}
 use Rattle.fields.proofs.part.read_raise_text.Goals as goal
 
 pub returns : goal.returns

@@ -2,7 +2,6 @@
 use Rattle.fields.specs.CursorLaws.{done, step, tested}
 use Rattle.fields.specs.PartLaws.{begun, refused_whole}
 use Rattle.fields.specs.StringKindLaws.{ruled}
-use borrow.Author.Rules.{rules}
 use Rattle.fields.proofs.part.read_string.Goals as goal
 
 pub returns : goal.returns

@@ -1,10 +1,6 @@
 -- `read`: the worst severity and impact of the records passed.
 use Prim.Native.Nat.{◌-◌}
-use native.Mathlib.Omega.{arith}
-use borrow.Author.Rules.{rules}
-use Rattle.register.specs.WalkLaws.{content_width}
-use Rattle.history.specs.WalkLaws.{reached_first, reached_fits}
-use Rattle.metrics.specs.HeadlineLaws.{Passed, passed_none, passed_next, passed_all}
+use Rattle.metrics.specs.HeadlineLaws.{Passed}
 use Rattle.metrics.proofs.headline.read.Given as goal
 
 abbrev pub invariant-loop-k : goal.invariant-loop-k

@@ -1,5 +1,4 @@
 -- `worse`: by cases.
-use borrow.Author.Rules.{rules}
 use borrow.Author.Tests.{eq-eqb, ne_eqb}
 use Rattle.metrics.proofs.headline.worse.Goals as goal
 

@@ -1,7 +1,6 @@
 -- `same`: the severities, and then the causes.
 use mathlib.Core.Path.{sym, ap₂, ◌∙◌}
 use borrow.Author.Tests.{eq-eqb, ne_eqb}
-use borrow.Author.Rules.{rules}
 use Rattle.octets.specs.Bytes.{same}
 use Rattle.metrics.proofs.rating.same.Goals as goal
 

@@ -1,6 +1,5 @@
 -- `severity`: the field of the payload.
 use mathlib.Core.Path.{◌∙◌, ap}
-use borrow.Author.Rules.{rules}
 use Rattle.octets.specs.Bytes.{Bytes}
 use Rattle.definition.specs.Record.{read_alarm}
 use Rattle.register.specs.WalkLaws.{content_width}

@@ -1,9 +1,7 @@
 -- `collect`: the rows are the tally of the places passed.
 use Prim.Native.Nat.{◌-◌}
 use native.Mathlib.Omega.{arith}
-use borrow.Author.Rules.{rules}
 use Rattle.history.specs.WalkLaws.{reached_first, reached_fits, reached_most}
-use Rattle.metrics.specs.Meaning.{Collected}
 use Rattle.metrics.specs.RowLaws.{collected_as, collected_none, collected_next}
 use Rattle.metrics.proofs.table.collect.Goals as goal
 

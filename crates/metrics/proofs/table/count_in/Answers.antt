@@ -1,7 +1,6 @@
 -- `count_in`: one more in the row, or nothing.
 use mathlib.Core.Path.{refl}
 use native.Mathlib.Omega.{arith}
-use borrow.Author.Rules.{rules}
 use Rattle.metrics.proofs.table.count_in.Goals as goal
 
 pub overflow_add-amounts : goal.overflow_add-amounts

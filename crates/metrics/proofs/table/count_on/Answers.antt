@@ -2,9 +2,8 @@
 use Prim.Native.Nat.{◌-◌}
 use mathlib.Core.Path.{sym}
 use native.Mathlib.Omega.{arith}
-use borrow.Author.Rules.{rules}
 use Rattle.history.specs.WalkLaws.{reached_fits, reached_most}
-use Rattle.metrics.specs.RowLaws.{collected_as, Counting, counting_none, counting_next, counting_all}
+use Rattle.metrics.specs.RowLaws.{collected_as, counting_none, counting_next, counting_all}
 use Rattle.metrics.proofs.table.count_on.Goals as goal
 
 pub loop-k-init : goal.loop-k-init

@@ -1,10 +1,6 @@
 -- `count_on`: with the rest added, the rows are the first of the tally.
 use Prim.Native.Nat.{◌-◌}
-use mathlib.Core.Path.{sym}
-use native.Mathlib.Omega.{arith}
-use borrow.Author.Rules.{rules}
-use Rattle.history.specs.WalkLaws.{reached_fits, reached_most}
-use Rattle.metrics.specs.RowLaws.{collected_as, Counting, counting_none, counting_next, counting_all}
+use Rattle.metrics.specs.RowLaws.{Counting}
 use Rattle.metrics.proofs.table.count_on.Given as goal
 
 abbrev pub invariant-loop-k : goal.invariant-loop-k

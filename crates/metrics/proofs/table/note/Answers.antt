@@ -1,7 +1,6 @@
 -- `note`: the row that has the rating, or one more.
 use mathlib.Core.Path.{refl}
 use native.Mathlib.Omega.{arith}
-use borrow.Author.Rules.{rules}
 use Rattle.metrics.proofs.table.note.Goals as goal
 
 pub count_in-requires : goal.count_in-requires

@@ -3,12 +3,11 @@ use Prim.Native.Nat.{◌-◌}
 use mathlib.Core.List.{◌∷◌, ◌++◌}
 use native.Mathlib.Omega.{arith}
 use lib.ListN.{get_or}
-use borrow.Author.Rules.{rules}
 use Rattle.octets.specs.Bytes.{be32}
 use Rattle.octets.specs.PutLaws.{put_as}
 use Rattle.definition.specs.Key.{string}
 use Rattle.answers.specs.EntryLaws.{begun_length}
-use Rattle.metrics.specs.ListingLaws.{Listed, listed_none, listed_fits, listed_next, listed_all}
+use Rattle.metrics.specs.ListingLaws.{listed_none, listed_fits, listed_next, listed_all}
 use Rattle.metrics.proofs.table.put_rows.Goals as goal
 
 pub loop-j-init : goal.loop-j-init

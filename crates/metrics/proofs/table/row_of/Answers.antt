@@ -1,13 +1,8 @@
 -- `row_of`: no row passed has the rating.
-use Prim.Native.Nat.{ℕ, ◌-◌, ◌≤◌, ◌<◌}
-use mathlib.Core.Path.{◌≡◌, sym, ◌∙◌}
-use mathlib.Core.Bool.{false}
+use Prim.Native.Nat.{◌-◌}
+use mathlib.Core.Path.{sym, ◌∙◌}
 use native.Mathlib.Omega.{arith}
 use borrow.Author.Count.{below_more}
-use borrow.Author.Rules.{rules}
-use lib.ListN.{get_or}
-use Rattle.definition.specs.Reports.{same_rating}
-use Rattle.metrics.specs.Meaning.{rating_at}
 use Rattle.metrics.proofs.table.row_of.Goals as goal
 
 pub loop-j-init : goal.loop-j-init

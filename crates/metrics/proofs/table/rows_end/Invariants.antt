@@ -1,8 +1,6 @@
 -- `rows_end`: where the entries of the rows passed end.
 use Prim.Native.Nat.{◌-◌}
-use native.Mathlib.Omega.{arith}
-use borrow.Author.Rules.{rules}
-use Rattle.metrics.specs.ListingLaws.{Sized, sized_none, sized_small, sized_next, sized_all}
+use Rattle.metrics.specs.ListingLaws.{Sized}
 use Rattle.metrics.proofs.table.rows_end.Given as goal
 
 abbrev pub invariant-loop-j : goal.invariant-loop-j

@@ -1,13 +1,8 @@
 -- `open`: the two refusals in their order, and the fresh register.
-use mathlib.Core.Path.{◌≡◌, sym, ◌∙◌}
-use mathlib.Core.Bool.{true, ◌&&◌}
+use mathlib.Core.Path.{sym, ◌∙◌}
 use native.Mathlib.Omega.{arith}
-use borrow.Author.Rules.{rules}
-use borrow.Author.Tests.{not-true, not-false}
 use Rattle.octets.specs.BoolLaws.{true_holds}
-use Rattle.definition.specs.Book.{is_limit}
 use Rattle.definition.proofs.Laws.Book.BookTests.{limits_to}
-use Rattle.model.specs.Opening.{Limits}
 use Rattle.model.specs.OpeningLaws.{open_limits, open_length, open_done, parts_of_lem}
 use Rattle.model.proofs.Record.open.Goals as goal
 

@@ -1,15 +1,10 @@
 -- What the ruler leaves of the bytes passed, joined by or.
-use mathlib.Core.Path.{◌≡◌, sym, ap, ◌∙◌}
+use mathlib.Core.Path.{◌≡◌}
 use Prim.Native.Nat.{◌≤◌, ◌-◌}
-use native.Mathlib.Omega.{arith}
 use lib.Dec.{eqb}
 use lib.ListN.{length, take}
-use lib.Seq.{take_all}
 use Rattle.octets.specs.Bytes.{blank}
-use Rattle.octets.specs.BlankLaws.{blank_none}
 use Rattle.record_check.specs.Ruler.{under}
-use Rattle.record_check.specs.RulerLaws.{under_length, under_step}
-use borrow.Author.Rules.{rules}
 use Rattle.record_check.proofs.ruler.is_clear.Given as goal
 
 abbrev pub invariant-loop-i : goal.invariant-loop-i

@@ -7,7 +7,6 @@ use Rattle.octets.specs.Bytes.{Bytes, blank}
 use Rattle.definition.proofs.Laws.Record.Slot.{part_lent}
 use Rattle.record_check.specs.Ruler.{under}
 use Rattle.record_check.specs.RulerLaws.{length_ruler, left_of_room}
-use borrow.Author.Rules.{rules}
 use Rattle.record_check.proofs.ruler.is_plain.Goals as goal
 
 pub slice_bounds-is_clear-end : goal.slice_bounds-is_clear-end

@@ -1,5 +1,4 @@
 -- A place that was found stays.
-use borrow.Author.Rules.{rules}
 use Rattle.cause.proofs.names.Named.or.Goals as goal
 
 pub returns-in-At : goal.returns-in-At
