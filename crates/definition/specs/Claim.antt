@@ -98,7 +98,7 @@ pub record Claim : Type 0 where
       (a h e : ℕ) (b b' : Bytes) (l l' : List Made) → Fresh a h e b → Fresh a h e b' → AllOctets l → AllOctets l' → Trace b l → Trace b' l' →
       TwinLists (map asked l) (map asked l') → AtEach Alike l l'
 
--- ---- the numbers: what opening, calls and looks at the panel give is 0 or a number of the table, so that a host that handles these handles all
+-- ---- the numbers: what opening and calls give is 0 or a number of the table, so that a host that handles these handles all
 
 pub record Numbers : Type 0 where
   pub opening : (a h e : ℕ) (slice : Bytes) → Among (open_of a h e slice).number (0 ∷ opening_refusals)
@@ -106,5 +106,7 @@ pub record Numbers : Type 0 where
   pub step : (b call : Bytes) (n : ℕ) → Octets call → Among (step_of b call n).number (0 ∷ step_refusals)
   -- 22 is given on no sound register
   pub on_sound_lem : (b call : Bytes) (n : ℕ) → Octets call → T (sound b) → Among (step_of b call n).number (0 ∷ sound_refusals)
-  -- M-102: a look or a write of one byte
+
+-- M-102: what a look or a write of one byte gives
+pub record PanelNumbers : Type 0 where
   pub panel : (b block : Bytes) (call : PanelCall) → Among (show_of b block call).number (0 ∷ panel_refusals)

@@ -16,7 +16,7 @@ use Rattle.definition.specs.Opening.{opened, open_of}
 use Rattle.definition.specs.Lists.{reply_of, step_of}
 use Rattle.definition.specs.Panel.{PanelCall, panel_reply, panel_of, show_of}
 use Rattle.definition.specs.Numbers.{opening_refusals, sound_refusals, step_refusals, panel_refusals, among, Among}
-use Rattle.definition.specs.Claim.{Claim, Numbers}
+use Rattle.definition.specs.Claim.{Claim, Numbers, PanelNumbers}
 use Rattle.definition.specs.Balance.{Balance}
 use Rattle.definition.specs.Reach.{Reach}
 use Rattle.definition.specs.Lamps.{Lamps}
@@ -92,7 +92,10 @@ panel_listed b block call = go (sound b) (eqb (length block) 8)
     go false y = tt
 
 pub numbers : Numbers
-numbers = record { opening = open_listed; step = step_listed; on_sound_lem = sound_listed; panel = panel_listed }
+numbers = record { opening = open_listed; step = step_listed; on_sound_lem = sound_listed }
+
+pub panel_numbers : PanelNumbers
+panel_numbers = record { panel = panel_listed }
 
 -- ---- M-107: no call on a sound register takes from a free chain that has ended: with record z more behind it, a call does the same, and leaves
 -- ---- z there

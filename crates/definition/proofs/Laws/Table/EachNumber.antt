@@ -46,14 +46,15 @@ pub record EachNumber : Type 0 where
   pub opening : (open_of 0 1 1 []).number ∷ (open_of 1 1 1 []).number ∷ [] ≡ opening_refusals
   -- 22 on a register of no byte; then the others on one of A=2, H=3, E=1
   pub step : (step_of [] [] 0).number ∷ drop 1 (numbers_of (run faults register)) ≡ step_refusals
-  -- M-102: 22 on a register of no byte; 30 on that of the table, for a block of no byte
+
+-- M-102: the panel's: 22 on a register of no byte; 30 on that of the table, for a block of no byte
+pub record EachPanelNumber : Type 0 where
   pub panel : (show_of [] [] look).number ∷ (show_of register [] look).number ∷ [] ≡ panel_refusals
 
 pub each_number : EachNumber
+unfolding open_of step_of sound sound_book legal_book read_book walk all_octets computed
+each_number = record { opening = refl; step = by_stations_of (λ q. (step_of [] [] 0).number ∷ drop 1 (numbers_of q)) faults tt refl }
+
+pub each_panel_number : EachPanelNumber
 unfolding open_of step_of show_of sound sound_book legal_book read_book walk all_octets computed
-each_number =
-    record {
-      opening = refl;
-      step = by_stations_of (λ q. (step_of [] [] 0).number ∷ drop 1 (numbers_of q)) faults tt refl;
-      panel = ap (λ (r : PanelReply). 22 ∷ r.number ∷ []) (show_legal (fresh 2 3 1) [] look register_legal);
-    }
+each_panel_number = record { panel = ap (λ (r : PanelReply). 22 ∷ r.number ∷ []) (show_legal (fresh 2 3 1) [] look register_legal) }
