@@ -1,4 +1,4 @@
-// The entry points: what a host calls, exported to C.
+// The entry points: what a host calls. Crate station_c exports them to C.
 //
 // Each is thin: it checks the register (22 comes first, `on_sound` in the definition), hands its bytes to a plain function of another crate and
 // tells the host what came of it (`reply::tell`). No entry point has a `requires`: number, length and every byte of every slice are fixed by equation
@@ -41,8 +41,7 @@ fn step(register: &mut [u8], call: &[u8], answer: &mut [u8]) -> Reply
 }
 
 // Opens a register with these limits. Returns 0, 20 or 21; the length is 0.
-#[unsafe(no_mangle)]
-pub extern "C" fn alarm_open(
+pub fn alarm_open(
     register: &mut [u8],
     active: u32,
     history: u32,
@@ -56,13 +55,7 @@ pub extern "C" fn alarm_open(
 }
 
 // Steps a register by a call. Returns 0 and the answer's length, or a refusal's number and 0.
-#[unsafe(no_mangle)]
-pub extern "C" fn alarm_step(
-    register: &mut [u8],
-    call: &[u8],
-    answer: &mut [u8],
-    length: &mut u64,
-) -> u32
+pub fn alarm_step(register: &mut [u8], call: &[u8], answer: &mut [u8], length: &mut u64) -> u32
     ensures { StepReturns
         register.old
         call.now
@@ -88,8 +81,7 @@ fn show(register: &[u8], block: &mut [u8], call: PanelCall) -> u32
 }
 
 // Looks: makes the panel block anew. Returns 0, 22 or 30; the length is 0.
-#[unsafe(no_mangle)]
-pub extern "C" fn alarm_panel_look(register: &[u8], block: &mut [u8], length: &mut u64) -> u32
+pub fn alarm_panel_look(register: &[u8], block: &mut [u8], length: &mut u64) -> u32
     ensures { PanelReturns
         register.now
         block.old
@@ -103,8 +95,7 @@ pub extern "C" fn alarm_panel_look(register: &[u8], block: &mut [u8], length: &m
 }
 
 // Writes one byte of the panel block, of which the mask alone takes it, and makes the block anew. Returns as a look.
-#[unsafe(no_mangle)]
-pub extern "C" fn alarm_panel_write(
+pub fn alarm_panel_write(
     register: &[u8],
     block: &mut [u8],
     at: u32,
