@@ -8,14 +8,15 @@
 test:
 	@tests/run
 
-# The static library of the entry points, which Rust and C link. Only what is proved is compiled.
+# The static library of the entry points (crate station_c), which Rust and C link. Only what is proved is compiled.
 LIBRARY = target/staticlib/libstation.a
 lib: $(LIBRARY)
 
-$(LIBRARY): crates.txt $(shell find crates -name '*.rt' -o -name '*.antt')
-	@echo "== Proving the register and compiling it: rt staticlib station (many minutes the first time)"
-	@rt staticlib station
-	@touch $@
+$(LIBRARY): crates.txt $(shell find crates -name out -prune -o \( -name '*.rt' -o -name '*.antt' \) -print)
+	@echo "== Proving the register and compiling it: rt lib, in crates/station_c (many minutes the first time)"
+	@cd crates/station_c && rt lib
+	@mkdir -p $(@D)
+	@cp crates/station_c/out/libstation_c.a $@
 
 run:
 	@examples/run
@@ -29,8 +30,8 @@ bench: lib
 
 # `make wrong ARGS='CRATE ..'` tries those of some crates.
 wrong:
-	@rt check
+	@rt all check
 	@python3 -B tests/wrong.py $(ARGS)
 
 fmt:
-	@rt fmt
+	@for crate in crates/*/; do (cd $$crate && rt fmt) || exit 1; done

@@ -10,7 +10,7 @@
 
    Alarms are written into the register's bytes here, by the offsets of docs/layout.json, as in bench/soundness.c.
 
-     rt staticlib station
+     make lib
      cc -O3 -Wall -Wextra bench/counts.c target/staticlib/libstation.a -o target/counts -lpthread
      target/counts < crates/lists_replay/stdin */
 #define _DEFAULT_SOURCE

@@ -12,7 +12,7 @@
    Alarms are written into the register's bytes here, by the offsets of docs/layout.json: each raise checks the whole register, so that
    filling it by calls would take time with the square of its records.
 
-     rt staticlib station
+     make lib
      cc -O3 -Wall -Wextra bench/soundness.c target/staticlib/libstation.a -o target/soundness && target/soundness */
 #define _DEFAULT_SOURCE
 #include <stdint.h>

@@ -21,8 +21,8 @@ def need(*tools):
 def library():
     """Builds the register's library where it is not there; `make lib` builds it anew after a change."""
     if not LIBRARY.exists():
-        need("rt")
-        subprocess.run(["rt", "staticlib", "station"], cwd=ROOT, check=True, stdout=subprocess.DEVNULL)
+        need("rt", "make")
+        subprocess.run(["make", "lib"], cwd=ROOT, check=True, stdout=subprocess.DEVNULL)
 
 
 def driver():

@@ -1,4 +1,4 @@
-//! Links libstation.a, from the folder that STATION names or from where `rt staticlib station` puts it.
+//! Links libstation.a, from the folder that STATION names or from where `make lib` puts it.
 fn main() {
     let folder = std::env::var("STATION").unwrap_or_else(|_| {
         format!("{}/../../target/staticlib", std::env::var("CARGO_MANIFEST_DIR").unwrap())

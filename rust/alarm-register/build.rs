@@ -30,7 +30,7 @@ fn main() {
             println!("cargo::rustc-link-lib=static={name}");
         }
         _ => println!(
-            "cargo::error=no static library at {}: make it with `make lib` at the repository's root (it runs `rt staticlib station`), \
+            "cargo::error=no static library at {}: make it with `make lib` at the repository's root (it runs `rt lib` in crates/station_c), \
              or give the whole path of one, lib*.a, in {VARIABLE}",
             archive.display()
         ),
