@@ -14,12 +14,13 @@ from checklist import HERE, Skip, faults_of, run
 
 RECORD, BOOK = "crates/definition/specs/Record.antt", "crates/definition/specs/Book.antt"
 LIMITS, MODEL, PLACES = "crates/definition/specs/Limits.antt", "crates/model/src/lib.rt", "crates/record/src/places.rt"
-CONTRACTS = "crates/definition/specs/Contracts/Does.antt"
+CLAUSES, TEXTS = "crates/definition/specs/Clauses/Does.antt", "crates/definition/proofs/Laws/Text/Cause.antt"
 CODE, SPECS, LAWS = "crates/octets/src/lib.rt", "crates/octets/specs/Bytes.antt", "crates/octets/specs/BoolLaws.antt"
 VECTORS = "crates/sha256_vectors/stdout"
 JSON, PAGE, CLAIMS, ARCHITECTURE = "docs/layout.json", "docs/LAYOUT.md", "docs/CLAIMS.md", "docs/ARCHITECTURE.md"
 HEADER, WRONG, TRUST = "include/alarm_register.h", "tests/wrong/octets.txt", "docs/TRUST.md"
 TABLE, NUMBERS, REFUSAL = "docs/NUMBERS.md", "crates/definition/specs/Numbers.antt", "rust/alarm-register/src/refusal.rs"
+STATION, EXPORTS = "crates/station/src/lib.rt", "crates/station_c/src/lib.rt"
 OFFSETS, PANEL = "rust/alarm-register/src/layout.rs", "rust/alarm-register/src/panel.rs"
 
 # For each check: what is damaged, in which file, the pattern, and what takes its place.
@@ -59,16 +60,16 @@ DAMAGES = {
         ("a place that is no sum", PLACES, r"Self::SECOND \+ Slot::SHORT", "Self::SECOND + short(Slot::SHORT)"),
     ],
     (layout, "limits of the definition"): [
-        ("a limit", LIMITS, r"textLimit = 256", "textLimit = 255"),
+        ("a limit", LIMITS, r"text_limit = 256", "text_limit = 255"),
     ],
     (layout, "slots of the definition's records"): [
-        ("two alarm slots exchanged", RECORD, r"(∷ short holds .* \.type\)\n)(.*\n)", r"\2\1"),
-        ("the room of a string", RECORD, r"string causeLimit", "string shortLimit"),
+        ("two alarm slots exchanged", RECORD, r"(∷ short holds .*\.type\)\n)(.*\n)", r"\2\1"),
+        ("the room of a string", RECORD, r"string cause_limit", "string short_limit"),
         ("an event's spare", RECORD, r"spare 767 holds", "spare 766 holds"),
     ],
     (layout, "header of the definition"): [
         ("an offset that is read", BOOK, r"\(at32 s 28\)", "(at32 s 36)"),
-        ("two words exchanged", BOOK, r"firstOf \(b \.audit\) ∷ length \(b \.audit\)", "length (b .audit) ∷ firstOf (b .audit)"),
+        ("two words exchanged", BOOK, r"first_of b\.audit ∷ length b\.audit", "length b.audit ∷ first_of b.audit"),
         ("the zeros behind", BOOK, r"zeros 1476", "zeros 1480"),
     ],
     (header, "offsets are the layout's"): [
@@ -128,12 +129,12 @@ DAMAGES = {
         ("a number of the definition too many", NUMBERS, r"31 ∷ \[\]", "31 ∷ 32 ∷ []"),
         ("a number of the definition left out", NUMBERS, r"21 ∷ \[\]", "[]"),
         ("two numbers of the definition exchanged", NUMBERS, r"24 ∷ 25", "25 ∷ 24"),
-        ("a part of a list of the definition left out", NUMBERS, r"callRefusals \+\+ \((.*)\)$", r"\1"),
-        ("a list of the definition left out", NUMBERS, r"^openingRefusals = .*\n", ""),
-        ("a list of the definition too many", NUMBERS, r"\Z", "\nabbrev pub hornRefusals : List ℕ\nhornRefusals = 22 ∷ []\n"),
-        ("a number of the panel's list left out", NUMBERS, r"^panelRefusals = 22 ∷ 30", "panelRefusals = 22"),
-        ("two numbers of the panel's list exchanged", NUMBERS, r"^panelRefusals = 22 ∷ 30", "panelRefusals = 30 ∷ 22"),
-        ("the panel's list left out", NUMBERS, r"^panelRefusals = .*\n", ""),
+        ("a part of a list of the definition left out", NUMBERS, r"call_refusals \+\+ \((.*)\)$", r"\1"),
+        ("a list of the definition left out", NUMBERS, r"^opening_refusals = .*\n", ""),
+        ("a list of the definition too many", NUMBERS, r"\Z", "\nabbrev pub horn_refusals : List ℕ\nhorn_refusals = 22 ∷ []\n"),
+        ("a number of the panel's list left out", NUMBERS, r"^panel_refusals = 22 ∷ 30", "panel_refusals = 22"),
+        ("two numbers of the panel's list exchanged", NUMBERS, r"^panel_refusals = 22 ∷ 30", "panel_refusals = 30 ∷ 22"),
+        ("the panel's list left out", NUMBERS, r"^panel_refusals = .*\n", ""),
         ("one of two entry points with one list left out of a row of the page", TABLE, r"^(\| 30 .*), `alarm_panel_write`", r"\1"),
         ("an entry point of the header left out", HEADER, r"^uint32_t alarm_panel_look\(", "uint32_t panel_look("),
         ("a number of the header", HEADER, r"(ALARM_REFUSED_UTF8 +)27u", r"\g<1>26u"),
@@ -163,26 +164,40 @@ DAMAGES = {
     ],
     (repository, "entry points have no requires"): [
         ("an entry point with one", CODE, r"\Z",
-         'pub extern "C" fn extra(a: u8) -> u8\n    requires { ⌜ a < 9 ⌝ }\n    ensures { λ r. ⌜ r ≡ a ⌝ }\n{\n    a\n}\n'),
+         'pub extern "C" fn extra(a: u8) -> u8\n    requires { a < 9 }\n    ensures { result ≡ a }\n{\n    a\n}\n'),
+        ("a function with one that an entry point calls", STATION, r"^(pub fn alarm_open[^{]*)ensures", r"\1requires { active ≤ 65535 }\n    ensures"),
+    ],
+    (repository, "exports promise what the library does"): [
+        ("a word of a contract", EXPORTS, r"result length\.new register\.new", "result 0 register.new"),
+        ("a narrower parameter", EXPORTS, r"value: u8,", "value: u16,"),
+        ("an export with no function", EXPORTS, r"fn alarm_step\(", "fn alarm_stop("),
     ],
     (repository, "no hole and no axiom"): [
         ("a hole", LAWS, r"\Z", "\nextra : 0 ≡ 0\nextra = ?\n"),
+        ("a hole with a name", LAWS, r"\Z", "\nextra : 0 ≡ 0\nextra = ?later\n"),
+        ("a term on trial", LAWS, r"\Z", "\nextra : 0 ≡ 0\nextra = {! refl !}\n"),
         ("an axiom", LAWS, r"\Z", "\naxiom pub extra : 0 ≡ 1\n"),
     ],
     (repository, "symbols are the library's"): [
-        ("another equality in a contract", CODE, r"mathlib\.Core\.Path\.\{_≡_", "mathlib.Core.Pair.{_≡_"),
-        ("an order of one's own", SPECS, r"\Z", "\nabbrev pub _≤_ : ℕ → ℕ → Bool\n_≤_ m n = true\n"),
+        ("another equality in a contract", CODE, r"Rattle\.std\.specs\.Prelude\.\{◌≡◌", "mathlib.Core.Pair.{◌≡◌"),
+        ("an order under the name of equality", CODE, r"Rattle\.std\.specs\.Prelude\.\{◌≡◌", "Rattle.std.specs.Prelude.{◌≤◌ as ◌≡◌"),
+        ("Rust's option in the definition", RECORD, r"Rattle\.std\.proofs\.Math\.Option\.\{Option", "Rattle.std.specs.Prelude.{Option"),
+        ("an order of one's own", SPECS, r"\Z", "\nabbrev pub ◌≤◌ : ℕ → ℕ → Bool\n◌≤◌ m n = true\n"),
+        ("a length that only its file sees", SPECS, r"\Z", "\nlength : ℕ → ℕ\nlength n = n\n"),
+        ("a list of one's own", SPECS, r"\Z", "\npub data List (A : Type 0) : Type 0 where\n  none_left : List A\n"),
     ],
     (repository, "the definition has no code"): [
         ("code", "crates/definition/src/lib.rt", r"\Z", "const A: u8 = 1;\n"),
-        ("a declared type", LIMITS, r"\Z", "use Rattle·model.specs.declared.Span.{Span}\n"),
-        ("a declared type in a cited file", SPECS, r"\Z", "use Rattle·octets·specs.specs.declared.Cursor.{Cursor}\n"),
+        ("a declared type", LIMITS, r"\Z", "use Rattle.model.specs.declared.Span.{Span}\n"),
+        ("a declared type in a cited file", SPECS, r"\Z", "use Rattle.octets.specs.declared.Cursor.{Cursor}\n"),
+        ("a declared type in a law", TEXTS, r"\Z", "use Rattle.model.specs.declared.Span.{Span}\n"),
     ],
     (repository, "definitions stand by themselves"): [
-        ("a law that is cited", LIMITS, r"\Z", "use Rattle·definition·specs.specs.Laws.Text.Cause.{cause-length}\n"),
-        ("a word of contracts that is cited", LIMITS, r"\Z", "use Rattle·definition·specs.specs.Contracts.LegalBook.{Limit}\n"),
-        ("a law that a contract cites", CONTRACTS, r"\Z", "use Rattle·definition·specs.specs.Laws.Text.Cause.{cause-length}\n"),
-        ("a law among the contracts", CONTRACTS, r"\Z", "\npub extra : 0 ≡ 0\nextra = refl\n"),
+        ("a law that is cited", LIMITS, r"\Z", "use Rattle.definition.proofs.Laws.Text.Cause.{cause_length}\n"),
+        ("another crate's law that is cited", LIMITS, r"\Z", "use Rattle.octets.proofs.NumberSteps.{digits_step}\n"),
+        ("a word of contracts that is cited", LIMITS, r"\Z", "use Rattle.definition.specs.Clauses.LegalBook.{Limit}\n"),
+        ("a law that a contract cites", CLAUSES, r"\Z", "use Rattle.definition.proofs.Laws.Text.Cause.{cause_length}\n"),
+        ("a law among the contracts", CLAUSES, r"\Z", "\npub extra : 0 ≡ 0\nextra = refl\n"),
     ],
     (pages, "ARCHITECTURE lists the crates by level"): [
         ("a row left out", ARCHITECTURE, r"^\| \w* ?\| `fips180` .*\n", ""),
@@ -190,7 +205,7 @@ DAMAGES = {
     ],
     (pages, "ARCHITECTURE follows a raise"): [
         ("a function that is not there", ARCHITECTURE, r"key::key_of ", "key::key_off"),
-        ("a definition that is not there", ARCHITECTURE, r" updatedBy  ", " updatedBye "),
+        ("a definition that is not there", ARCHITECTURE, r" updated_by  ", " updated_bye "),
     ],
     (pages, "claims are there, one for each public function"): [
         ("a theorem that is not there", CLAIMS, r"`published`", "`publicised`"),
@@ -206,8 +221,8 @@ DAMAGES = {
         ("a must-fail edit that says something else", "crates/octets/must-fail/number_weight.edit", r"256 times", "255 times"),
     ],
     (pages, "sentences have their definitions"): [
-        ("a definition renamed", "crates/definition/specs/Steps.antt", r"\bmakeRoom\b", "makePlace"),
-        ("a file that states nothing", "docs/SENTENCES.md", r"(`keyOf`; .*\| )`Key.antt`", r"\1`Cause.antt`"),
+        ("a definition renamed", "crates/definition/specs/Steps.antt", r"\bmake_room\b", "make_place"),
+        ("a file that states nothing", "docs/SENTENCES.md", r"(`key_of`; .*\| )`Key.antt`", r"\1`Cause.antt`"),
     ],
     (pages, "paths in documents are there"): [
         ("a path to nothing", "README.md", r"\Z", "See docs/NOWHERE.md.\n"),
@@ -216,7 +231,7 @@ DAMAGES = {
     (pages, "each enum has its meaning"): [
         ("an enum left out", CLAIMS, r"^\| `Soundness` .*\n", ""),
         ("an enum that is not there", CLAIMS, r"^\| `Reply` ", "| `Reply`, `Response` "),
-        ("a definition that is not there", CLAIMS, r"`causeValue`: ", "`causeWorth`: "),
+        ("a definition that is not there", CLAIMS, r"`cause_value`: ", "`cause_worth`: "),
     ],
     (pages, "TRUST lists the definition, with its lines"): [
         ("a definition that has grown", LIMITS, r"\Z", "-- more\n"),
@@ -247,7 +262,7 @@ DAMAGES = {
 def copied(folder):
     """A copy of what the checks read."""
     for name in ("crates", "docs", "tests", "compare", "include", "rust", "examples", "bench", ".ci"):
-        shutil.copytree(HERE / name, folder / name, ignore=shutil.ignore_patterns("__pycache__", "target"))
+        shutil.copytree(HERE / name, folder / name, ignore=shutil.ignore_patterns("__pycache__", "target", "out"))
     for name in ("crates.txt", "README.md", "NOTICE"):
         shutil.copy(HERE / name, folder / name)
 

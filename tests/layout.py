@@ -277,8 +277,8 @@ def places(root):
 def limits(root):
     """The definition's limits are document 01's."""
     yield from held_to("crates/definition/specs/Limits.antt", limits_of(root), {
-        "recordWidth": WIDTH, "shortLimit": SHORT, "causeLimit": CAUSE, "regionLimit": REGION,
-        "textLimit": TEXT, "detailsLimit": DETAILS})
+        "record_width": WIDTH, "short_limit": SHORT, "cause_limit": CAUSE, "region_limit": REGION,
+        "text_limit": TEXT, "details_limit": DETAILS})
 
 
 def later(root, path):
@@ -293,14 +293,14 @@ def limits_of(root):
 
 
 def slot_width(expression, text, limit):
-    """How many bytes a slot of the definition takes, as `option (string shortLimit utf8)`; text holds the named ones."""
+    """How many bytes a slot of the definition takes, as `option (string short_limit utf8)`; text holds the named ones."""
     expression = expression.strip()
     if expression.startswith("(") and expression.endswith(")"):
         return slot_width(expression[1:-1], text, limit)
     head, _, rest = expression.partition(" ")
     if head in ("raw", "number", "spare"):
         return int(rest)
-    if head == "upTo":
+    if head == "up_to":
         return 1
     if head == "string":
         return LENGTH + limit[rest.split()[0]]
@@ -317,12 +317,12 @@ def slot_width(expression, text, limit):
 
 def definition_slots(root, part, text):
     """(field, offset, width) of the definition's list of slots, field names as in layout.json."""
-    block = re.search(rf"^{part}Fields\b[^=\n]*=\n(.*?)∷ \[\]", text, re.M | re.S)
+    block = re.search(rf"^{part}_fields\b[^=\n]*=\n(.*?)∷ \[\]", text, re.M | re.S)
     if not block:
-        raise ValueError(f"no list {part}Fields")
+        raise ValueError(f"no list {part}_fields")
     slots, at, limit = [], LINK, limits_of(root)
     for expression, field in re.findall(r"^\s*(?:∷ )?(.+?) holds \(λ \w+\. (.+)\)$", block.group(1), re.M):
-        name = re.sub(r"(?<=[a-z])At\b", "_at", field.split(".")[-1].strip())
+        name = field.split(".")[-1].strip()
         width = slot_width(expression, text, limit)
         slots.append(("spare" if name == "tt" else name, at, width))
         at += width
@@ -343,27 +343,32 @@ def slots(root):
             yield f"{path}: {part}: {slot} is {'in the definition' if slot in found else 'in the layout'} alone"
 
 
+def field_of(name):
+    """The layout's name of a number that the definition's header has: a limit is named by its letter there."""
+    return re.sub(r"^limit_([ahe])$", lambda found: found.group(1).upper(), name)
+
+
 def header(root):
     """The definition writes and reads the header's numbers at the layout's offsets; its rest is zeros."""
     path = "crates/definition/specs/Book.antt"
     text = later(root, path)
     fields = layout(root)["header"]
     found = {}
-    for name, width, at in re.findall(r"^\s*(\w+) = (?:at32|numberAt (\d)) \w+ (\d+);$", text, re.M):
-        found[name.replace("limit", "")] = [int(at), int(width or 4)]
+    for name, width, at in re.findall(r"^\s*(\w+) = (?:at32|number_at (\d)) \w+ (\d+);$", text, re.M):
+        found[field_of(name)] = [int(at), int(width or 4)]
     for name, length, head in re.findall(r"^\s*(\w+) = walk \w+ \(at32 \w+ (\d+)\) \(at32 \w+ (\d+)\);$", text, re.M):
         found[f"{name}_length"], found[f"{name}_head"] = [int(length), 4], [int(head), 4]
     yield from held_to(path, found, fields)
     words = re.search(r"^words b =\n(.*?)∷ \[\]", text, re.M | re.S)
-    names = [re.sub(r"limit|[ .()]", "", item.strip().removeprefix("b ")) for item in words.group(1).split("∷")] if words else []
-    names = [re.sub(r"^(firstOf|length)b(\w+)", lambda m: f"{m.group(2)}_{'head' if m.group(1) == 'firstOf' else 'length'}", name) for name in names]
+    names = [field_of(item.strip().removeprefix("b.")) for item in words.group(1).split("∷")] if words else []
+    names = [re.sub(r"^(first_of|length) b\.(\w+)$", lambda m: f"{m.group(2)}_{'head' if m.group(1) == 'first_of' else 'length'}", name) for name in names]
     wanted = [name for name, (at, width) in sorted(fields.items(), key=lambda field: field[1]) if width == 4]
     if names != wanted:
         yield f"{path}: words are {names}, the layout has {wanted}"
     rest = WIDTH - extent(json_slots(root, "header"))[1]
     if not re.search(rf"^header b = .*\bzeros {rest}\)*$", text, re.M):
         yield f"{path}: no `zeros {rest}` behind the header's numbers"
-    yield from held_to(path, dict(re.findall(r"^(payloadWidth) = (\d+)$", text, re.M)), {"payloadWidth": str(WIDTH - LINK)})
+    yield from held_to(path, dict(re.findall(r"^(payload_width) = (\d+)$", text, re.M)), {"payload_width": str(WIDTH - LINK)})
 
 
 CHECKS = {

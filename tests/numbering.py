@@ -5,8 +5,8 @@ from typing import NamedTuple
 PAGE, DEFINITION = "docs/NUMBERS.md", "crates/definition/specs/Numbers.antt"
 HEADER, CRATE = "include/alarm_register.h", "rust/alarm-register/src/refusal.rs"
 # The entry points, and the definition's list of the refusals of each, which two may share; lists of no entry point, which others hold.
-ENTRIES = {"alarm_open": "openingRefusals", "alarm_step": "stepRefusals", "alarm_panel_look": "panelRefusals", "alarm_panel_write": "panelRefusals"}
-PARTS = ["callRefusals", "soundRefusals"]
+ENTRIES = {"alarm_open": "opening_refusals", "alarm_step": "step_refusals", "alarm_panel_look": "panel_refusals", "alarm_panel_write": "panel_refusals"}
+PARTS = ["call_refusals", "sound_refusals"]
 # The columns of the page's two tables.
 GIVEN = ["No.", "Checked at", "Given if", "Entry points", "From", "Name in the header"]
 REMOVED = ["No.", "From", "Was given if", "Removed by", "Why"]
@@ -57,7 +57,7 @@ def refusals(root):
 def defined(root):
     """The definition's lists by name; one may hold another by its name."""
     lists = {}
-    for name, items in re.findall(r"^(\w+Refusals) = (.*)$", re.sub(r"--.*", "", read(root, DEFINITION)), re.M):
+    for name, items in re.findall(r"^(\w+_refusals) = (.*)$", re.sub(r"--.*", "", read(root, DEFINITION)), re.M):
         lists[name] = [number for item in re.findall(r"\w+", items) for number in ([int(item)] if item.isdigit() else lists[item])]
     return lists
 

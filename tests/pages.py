@@ -7,7 +7,7 @@ import sys
 
 import wrong_page
 from checklist import Skip, run
-from repository import functions, levels, line, texts
+from repository import cited, functions, levels, line, texts
 
 DOCUMENTS = ["README.md", "NOTICE", "docs/*.md"]
 
@@ -137,18 +137,18 @@ def sentences(root):
             yield f"docs/SENTENCES.md:{number}: {name} is not in {', '.join(files)}"
 
 
-# Paths in documents: from the root or beside the document; the definition's folders of laws and of contracts' words are named from its specs.
+# Paths in documents: from the root or beside the document; the definition's laws are named from its proofs, the words of contracts from its specs.
 PATHS = re.compile(r"(?<![\w/.])(?:(?:crates|docs|tests|compare|rust(?!/target)|include|examples|bench|\.ci)/[\w./*-]*[\w*]"
-                   r"|(?:Laws|Contracts)/[\w/.]*\w|[A-Z]+\.md)(?![\w/])")
+                   r"|(?:Laws|Clauses)/[\w/.]*\w|[A-Z]+\.md)(?![\w/])")
 
 
 def paths(root):
     """Each path that a document names is there."""
-    specs = root / "crates/definition/specs"
+    definition = root / "crates/definition"
     for path, text in texts(root, *DOCUMENTS):
         for found in PATHS.finditer(text):
             name = found.group(0)
-            if not any(next(base.glob(name), None) for base in (root, (root / path).parent, specs)):
+            if not any(next(base.glob(name), None) for base in (root, (root / path).parent, definition / "specs", definition / "proofs")):
                 yield f"{path}:{line(text, found.start())}: {name} is not there"
 
 
@@ -162,16 +162,14 @@ def believed(root):
     text = (root / TRUST).read_text(encoding="utf-8")
     rows = {name if "/" in name else f"{DEFINITION}/{name}": int(lines) for name, lines in re.findall(r"^\| `([\w/]+\.antt)` \| (\d+) \|", text, re.M)}
     parts = re.findall(r"^pub mod (\w+)", (root / DEFINITION / "Lib.antt").read_text(encoding="utf-8"), re.M)
-    wanted = [f"{DEFINITION}/{part}.antt" for part in parts if part not in ("Laws", "Contracts")]
+    wanted = [f"{DEFINITION}/{part}.antt" for part in parts if part != "Clauses"]
     if [path for path in rows if path.startswith(DEFINITION)] != wanted:
         yield f"{TRUST} does not list the files of {DEFINITION} as Lib.antt does"
     for path, lines in rows.items():
         file = (root / path).read_text(encoding="utf-8")
         if file.count("\n") != lines:
             yield f"{TRUST}: {path} has {file.count(chr(10))} lines, and not {lines}"
-        for crate, cited in re.findall(r"\buse Rattle·(\w+)(?:·specs)?\.specs\.(\w+(?:\.\w+)*)", file):
-            if f"crates/{crate}/specs/{cited.replace('.', '/')}.antt" not in rows:
-                yield f"{TRUST} does not list {cited} of {crate}, which {path} cites"
+        yield from (f"{TRUST} does not list {other}, which {path} cites" for other in cited(file) if other not in rows)
     if f"| all | {sum(rows.values()):,} |" not in text:
         yield f"{TRUST}: all lines are {sum(rows.values()):,}"
 
@@ -192,12 +190,12 @@ def toolchain(root):
 def sceptic(root):
     """The three edits for a sceptic are must-fail edits, so that each run of rt ci tries them."""
     text = (root / TRUST).read_text(encoding="utf-8")
-    rows = re.findall(r"^\| `crates/(\w+)/(\S+)` \| `([^|]+)` \| `([^|]+)` \| `rt dev (\w+)` \|", text, re.M)
+    rows = re.findall(r"^\| `crates/(\w+)/(\S+)` \| `([^|]+)` \| `([^|]+)` \| `crates/(\w+)` \|", text, re.M)
     if len(rows) != 3:
         yield f"{TRUST} has {len(rows)} edits"
-    for crate, file, old, new, command in rows:
+    for crate, file, old, new, place in rows:
         edits = [dict(re.findall(r"^(file|old|new): +(.*)", edit, re.M)) for _, edit in texts(root, f"crates/{crate}/must-fail/*.edit")]
-        if crate != command or {"file": file, "old": old, "new": new} not in edits:
+        if crate != place or {"file": file, "old": old, "new": new} not in edits:
             yield f"{TRUST}: {old}: crates/{crate}/must-fail has no such edit"
 
 

@@ -1,5 +1,7 @@
 #!/usr/bin/env python3
 """Rules of crates, code and proofs that the prover does not check; those of pages are in pages.py."""
+import concurrent.futures
+import os
 import pathlib
 import re
 import shutil
@@ -11,16 +13,24 @@ import wrong
 import wrong_page
 from checklist import Skip, run
 
-# Symbols that a reader of a contract takes for the library's, and the only module that may give them.
+# Symbols that a reader of a contract takes for the library's, and the module that defines them.
 MEANING = {
-    "mathlib.Core.Path": ["_≡_"],
-    "Prim.Native.Nat": ["ℕ", "_+_", "_-_", "_*_", "_/_", "_%_", "_^_", "_<_", "_≤_"],
-    "mathlib.Core.List": ["List", "[]", "_∷_", "_++_"],
-    "mathlib.Core.Bool": ["Bool", "true", "false", "cond", "not", "_&&_", "_||_"],
+    "mathlib.Core.Path": ["◌≡◌"],
+    "Prim.Native.Nat": ["ℕ", "◌+◌", "◌-◌", "◌*◌", "◌/◌", "◌%◌", "◌^◌", "◌<◌", "◌≤◌"],
+    "mathlib.Core.List": ["List", "[]", "◌∷◌", "◌++◌"],
+    "mathlib.Core.Bool": ["Bool", "true", "false", "cond", "not", "◌&&◌", "◌||◌"],
     "mathlib.Core.Option": ["Option", "none", "some"],
-    "lib.ListN": ["length", "take", "drop", "getD"],
+    "lib.ListN": ["length", "take", "drop", "get_or"],
+    "lib.Dec": ["T", "eqb", "ltb", "leb"],
 }
-HOME = {name: module for module, names in MEANING.items() for name in names}
+# The modules of the library that pass on what these define, under the same names. The first two pass on single names, and their `Option` is Rust's.
+PASSED_ON = {
+    "Rattle.std.specs.Prelude": [module for module in MEANING if module != "mathlib.Core.Option"],
+    "Rattle.std.proofs.Common": [module for module in MEANING if module != "mathlib.Core.Option"],
+    **{f"Rattle.std.proofs.Math.{module.rpartition('.')[2]}": [module] for module in MEANING if module not in ("Prim.Native.Nat", "mathlib.Core.List")},
+}
+# For each symbol the modules that it may be taken from.
+HOMES = {name: [module, *(other for other, passed in PASSED_ON.items() if module in passed)] for module, names in MEANING.items() for name in names}
 
 # The scripts that write what programs are to read and to print, and the files that they write.
 SCRIPTS = ["tests/vectors/*.py", "tests/calls/make.py", "tests/register/make.py"]
@@ -49,7 +59,7 @@ def code(root):
 
 def proofs(root):
     """The antt files, comments blanked."""
-    for path, text in texts(root, "crates/**/*.antt"):
+    for path, text in texts(root, "crates/*/specs/**/*.antt", "crates/*/proofs/**/*.antt"):
         yield path, re.sub(r"--[^\n]*", lambda m: " " * len(m.group(0)), text)
 
 
@@ -67,7 +77,7 @@ def levels(root):
             level = found.setdefault(head.group(1), {})
         elif ":" in code:
             name, _, needs = code.partition(":")
-            level[name.strip()] = needs.split()
+            level[name.split()[0]] = needs.split()
     return found
 
 
@@ -81,7 +91,7 @@ def signature(text, at):
     depth = 0
     for i in range(at, len(text)):
         if text[i] == "{":
-            if depth == 0 and not re.search(r"\b(requires|ensures)(\s+\w+)?\s*$", text[at:i]):
+            if depth == 0 and not re.search(r"\b(requires|ensures)\*?(\s+\w+)?\s*$", text[at:i]):
                 return text[at:i]
             depth += 1
         elif text[i] == "}":
@@ -122,16 +132,30 @@ def promises(root):
 
 
 def entries(root):
-    """No function that a host calls has a `requires`."""
-    for where, name, exported, head in functions(root):
-        if exported and re.search(r"\brequires\b", head):
+    """No function that a host calls has a `requires`, nor has the library's function that it hands its arguments to."""
+    host = {name for _, name, exported, _ in functions(root) if exported}
+    for where, name, _, head in functions(root):
+        if name in host and re.search(r"\brequires\b", head):
             yield f"{where}: {name} is an entry point with a requires"
 
 
+def plain(head):
+    """A signature's words: parameters and clauses, however they are laid out."""
+    return " ".join(re.sub(r",(?=\s*\))", "", head).replace("(", "( ").replace(")", " )").split())
+
+
+def exports(root):
+    """What a static library exports has the parameters and the clauses of the library's function that has its name."""
+    known = {name: plain(head) for _, name, exported, head in functions(root) if not exported}
+    for where, name, exported, head in functions(root):
+        if exported and known.get(name) != plain(head):
+            yield f"{where}: {name} {'promises something else than' if name in known else 'has no'} the library's function of that name"
+
+
 def holes(root):
-    """No proof has a hole and none declares an axiom."""
+    """No proof has a hole, with or without a name, or a term on trial in its place, and none declares an axiom."""
     for path, text in proofs(root):
-        for found in re.finditer(r"(?<![^\s(=])\?(?![^\s)])|^\s*axiom\b", text, re.M):
+        for found in re.finditer(r"(?<![^\s(=])\?\w*(?![^\s)])|\{!|^\s*(?:pub )?axiom\b", text, re.M):
             yield f"{path}:{line(text, found.start())}: {found.group(0).strip()}"
 
 
@@ -140,25 +164,33 @@ def symbols(root):
     imports = r"\buse\s+([^\s{};]+)\.\{([^}]*)\}"
     for path, text in [*code(root), *proofs(root)]:
         for found in re.finditer(imports, text):
-            for name in (item.strip().split(" ")[-1] for item in found.group(2).split(",")):
-                if HOME.get(name, found.group(1)) != found.group(1):
-                    yield f"{path}:{line(text, found.start())}: {name} is taken from {found.group(1)}"
+            for words in (item.split() for item in found.group(2).split(",") if item.split()):
+                name = words[-1]
+                if name in HOMES and (found.group(1) not in HOMES[name] or words[0] != name):
+                    yield f"{path}:{line(text, found.start())}: {' '.join(words)} is taken from {found.group(1)}"
     for path, text in proofs(root):
-        if path.split("/")[2] != "specs":
-            continue
-        # what is indented with `pub` alone is a record's field, which no contract can take for the symbol
-        for found in re.finditer(r"^(?:(?:unfoldable |abbrev |axiom |pub )+| +(?:unfoldable |abbrev )(?:pub )?)(\S+) :", text, re.M):
-            if found.group(1) in HOME:
-                yield f"{path}:{line(text, found.start())}: {found.group(1)} is defined anew"
+        # what is indented with `pub` alone is a record's field, which no contract can take for the symbol; nor is a lemma of a proof that has no mark
+        marks = "*" if path.split("/")[2] == "specs" else "+"
+        given = rf"^(?:(?:unfoldable|abbrev|axiom|pub) ){marks}(\S+) :(?=\s)|^ +(?:(?:unfoldable|abbrev) )+(?:pub )?(\S+) :(?=\s)|^ *(?:pub )?(?:record|data) (\S+)"
+        for found in re.finditer(given, text, re.M):
+            name = next(filter(None, found.groups()))
+            if name in HOMES:
+                yield f"{path}:{line(text, found.start())}: {name} is defined anew"
+
+
+def cited(text):
+    """The antt files of this repository that a file cites."""
+    for crate, folder, file in re.findall(r"\buse Rattle\.(?!std\.|core\.)(\w+)\.(specs|proofs)\.(\w+(?:\.\w+)*)", text):
+        yield f"crates/{crate}/{folder}/{file.replace('.', '/')}.antt"
 
 
 def definition(root):
     """The definition has no code, and neither it nor what it cites names a type that is declared in code."""
     for path, text in code(root):
-        if path.startswith("crates/definition/") and text.strip():
+        if path.startswith("crates/definition/") and re.sub(r"#!\[tactic\(auto\)\]", "", text).strip():
             yield f"{path}: holds code"
     files = dict(proofs(root))
-    todo, seen = [path for path in files if path.startswith("crates/definition/specs/")], set()
+    todo, seen = [path for path in files if path.startswith("crates/definition/")], set()
     while todo:
         path = todo.pop()
         if path in seen or path not in files:
@@ -166,17 +198,17 @@ def definition(root):
         seen.add(path)
         for found in re.finditer(r"\S*\bdeclared\.\S*", files[path]):
             yield f"{path}:{line(files[path], found.start())}: {found.group(0)}"
-        for crate, file in re.findall(r"\buse Rattle·(\w+)(?:·specs)?\.specs\.(\w+(?:\.\w+)*)", files[path]):
-            todo.append(f"crates/{crate}/specs/{file.replace('.', '/')}.antt")
+        todo.extend(cited(files[path]))
 
 
 def laws(root):
-    """What states document 01 cites neither Laws nor Contracts, and Contracts no Laws. Neither holds a law: each line with a type has a mark."""
+    """What states document 01 cites neither laws, which stand in the definition's proofs, nor Clauses, and Clauses no laws. Neither holds a law:
+    each line with a type has a mark."""
     for path, text in proofs(root):
-        place = re.fullmatch(r"crates/definition/specs/(Contracts/)?\w+\.antt", path)
+        place = re.fullmatch(r"crates/definition/specs/(Clauses/)?\w+\.antt", path)
         if place:
-            others = "Laws" if place.group(1) else "Laws|Contracts"
-            for found in re.finditer(rf"\buse Rattle·definition\S*\.(?:{others})\.\S*|^(?:pub )?\S+ :(?=\s)", text, re.MULTILINE):
+            others = r"\w+\.proofs" if place.group(1) else r"\w+\.proofs|definition\.specs\.Clauses"
+            for found in re.finditer(rf"\buse Rattle\.(?!std\.|core\.)(?:{others})\b\S*|^(?:pub )?\S+ :(?=\s)", text, re.MULTILINE):
                 yield f"{path}:{line(text, found.start())}: {found.group(0)}"
 
 
@@ -210,17 +242,29 @@ def vectors(root):
                 yield f"{file} is not what the scripts write"
 
 
+def formatted(home):
+    """The files of a crate that `rt fmt` changes, or what it says where it fails."""
+    done = subprocess.run(["rt", "fmt"], cwd=home, stdout=subprocess.PIPE, stderr=subprocess.STDOUT, text=True)
+    files = [f"crates/{home.name}/{file}" for file in re.findall(r"^rt: formatted (\S+)$", done.stdout, re.M)]
+    return files if done.returncode == 0 else [f"crates/{home.name}: {row}" for row in done.stdout.splitlines()[-5:] or ["rt fmt fails"]]
+
+
 def layout(root):
-    """`rt fmt` would change nothing."""
-    done = subprocess.run(["rt", "fmt", "--check"], cwd=root, stdout=subprocess.PIPE, stderr=subprocess.STDOUT, text=True)
-    if done.returncode:
-        yield from done.stdout.replace(f"{root}/", "").splitlines()[-5:] or [f"rt fmt --check: exit status {done.returncode}"]
+    """`rt fmt` would change nothing. It writes, so it is given a copy."""
+    with tempfile.TemporaryDirectory() as name, concurrent.futures.ThreadPoolExecutor(os.cpu_count()) as pool:
+        copy = pathlib.Path(name)
+        shutil.copytree(root / "crates", copy / "crates", ignore=shutil.ignore_patterns("out"))
+        shutil.copy(root / "crates.txt", copy)
+        (copy / ".git").mkdir()
+        for faults in pool.map(formatted, [copy / "crates" / crate for crate in listed(root)]):
+            yield from faults
 
 
 CHECKS = {
     "crates are listed": crates,
     "public functions have an ensures": promises,
     "entry points have no requires": entries,
+    "exports promise what the library does": exports,
     "no hole and no axiom": holes,
     "symbols are the library's": symbols,
     "the definition has no code": definition,

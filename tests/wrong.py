@@ -1,15 +1,16 @@
 #!/usr/bin/env python3
 """Tries the wrong answers of docs/WRONG.md: changes of the code, each of which the prover must refuse because a fact fails.
 
-    make wrong                          those of all crates, which must be proved before (rt check)
+    make wrong                          those of all crates, which must be proved before (rt all check)
     make wrong ARGS='octets cause'      those of some crates
 
 tests/wrong/CRATE.txt has those of a crate. A line '== FUNCTION: ANSWER' starts one; 'in FILE' names the function's file where that is not
 src/lib.rt; lines '- ' are text that stands once in the function, and lines '+ ' what takes its place.
 
-They are tried in copies of the repository. A function is judged by its own proof and by the contracts of what it calls, so those of several
-functions go into one check; one that the check has no word of its own on, since it calls another, is tried again alone. A refusal that
-names something missing is one of form, says nothing of the answer and counts as a failure. The last line is 'N passed, M failed'.
+They are tried in copies of the repository, where rt begins with what it kept of the same crates. A function is judged by its own proof and
+by the contracts of what it calls, so those of several functions go into one check; one that the check has no word of its own on, since it
+calls another, is tried again alone. A refusal that names something missing is one of form, says nothing of the answer and counts as a
+failure. WRONG_JOBS says how many checks run at a time, two if it is not set. The last line is 'N passed, M failed'.
 """
 import collections
 import concurrent.futures
@@ -23,7 +24,7 @@ import sys
 import tempfile
 
 ROOT = pathlib.Path(__file__).resolve().parent.parent
-JOBS = int(os.environ.get("RT_JOBS", "2"))
+JOBS = int(os.environ.get("WRONG_JOBS", "2"))
 
 Edit = collections.namedtuple("Edit", "function answer file pairs")
 
@@ -76,20 +77,18 @@ def changed(text, edit):
 
 
 def copied(place):
-    """A place with the repository's crates and what is proved of them."""
-    shutil.copytree(ROOT / "crates", place / "crates")
+    """A place with the repository's crates, without what checks left in them."""
+    shutil.copytree(ROOT / "crates", place / "crates", ignore=shutil.ignore_patterns("out"))
     shutil.copy(ROOT / "crates.txt", place)
-    for part in ["stamp", "rlib"]:
-        shutil.copytree(ROOT / "target" / part, place / "target" / part)
+    (place / ".git").mkdir()
     return place
 
 
 def restored(place, crate):
-    """The crate as it stands in the repository, and proved: other crates are checked in the same place."""
+    """The crate as it stands in the repository: other crates are checked in the same place."""
     home = place / "crates" / crate
     shutil.rmtree(home / "src")
     shutil.copytree(ROOT / "crates" / crate / "src", home / "src")
-    shutil.copy(ROOT / "target/stamp" / crate, place / "target/stamp")
 
 
 def said(place, crate, batch):
@@ -98,18 +97,18 @@ def said(place, crate, batch):
         source = place / "crates" / crate / edit.file
         source.write_text(changed(source.read_text(encoding="utf-8"), edit), encoding="utf-8")
     try:
-        job = subprocess.run(["rt", "check", crate], cwd=place, capture_output=True, text=True, errors="replace", env={**os.environ, "RT_CUT": "0"})
+        job = subprocess.run(["rt", "check"], cwd=place / "crates" / crate, capture_output=True, text=True, errors="replace")
     finally:
         restored(place, crate)
-    if f"rt: {crate} NOT PROVED (exit 1" not in job.stdout:
+    if job.returncode != 1 or not re.search(r"^logic=not-proved", job.stdout, flags=re.M):
         raise ValueError(f"{crate} was not refused by the prover:\n{job.stdout[-2000:]}{job.stderr[-2000:]}")
     return job.stdout
 
 
 def word(text, function):
     """The check's own word on a function, empty where it has none."""
-    errors = re.findall(rf"^\S*/proofs/(?:\S*/)?{function}/Proof\.antt:\S* error: (.*)", text, flags=re.M)
-    unclosed = re.findall(rf"^fn \S*::{function}: no proof: .*?(`search` does not close [^;\n]*)", text, flags=re.M)
+    errors = re.findall(rf"^\S*/proofs/(?:\S*/)?{function}/\w+\.antt:\S* error: (.*)", text, flags=re.M)
+    unclosed = re.findall(rf"^fn \S*::{function}: no proof: .*?(`search` did not prove [^;\n]*)", text, flags=re.M)
     return next((row for row in errors + unclosed if AFTER not in row), "")
 
 

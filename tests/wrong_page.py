@@ -54,7 +54,7 @@ def must_fail(root, crate):
 def crates(root):
     """The crates in crates.txt's order."""
     rows = (root / "crates.txt").read_text(encoding="utf-8").splitlines()
-    return [row.split(":")[0].strip() for row in rows if ":" in row.partition("#")[0]]
+    return [row.split(":")[0].split()[0] for row in rows if ":" in row.partition("#")[0]]
 
 
 def table(root, crate):
