@@ -1,5 +1,5 @@
 -- Six answers joined by and.
-use Rattle.register_check.specs.JudgeLaws.{apart_decides}
+use Rattle.register_check.proofs.JudgeLaws.{apart_decides}
 use Rattle.register_check.proofs.apart.Goals as goal
 
 pub returns : goal.returns

@@ -3,7 +3,7 @@
 -- ---- walks that ended
 -- ---- what the four say
 use mathlib.Core.Path.{◌∙◌}
-use Rattle.register_check.specs.JudgeLaws.{broken, went, judged, stands}
+use Rattle.register_check.proofs.JudgeLaws.{broken, went, judged, stands}
 use Rattle.register_check.specs.declared.Kind.TheVariants.{Active, History, Audit, Free}
 use Rattle.register_check.proofs.chains.Goals as goal
 

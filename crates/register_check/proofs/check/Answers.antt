@@ -1,7 +1,7 @@
 -- A wrong header shows that the bytes are not sound; the rest is what the chains show.
 use mathlib.Core.Path.{◌∙◌}
 use Rattle.record_check.specs.RulerLaws.{ruler_made}
-use Rattle.register_check.specs.JudgeLaws.{found, wrong_header}
+use Rattle.register_check.proofs.JudgeLaws.{found, wrong_header}
 use Rattle.register_check.proofs.check.Goals as goal
 
 pub returns-in_default : goal.returns-in_default

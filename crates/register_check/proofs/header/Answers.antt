@@ -7,7 +7,7 @@ use native.Mathlib.Omega.{arith}
 use Rattle.definition.proofs.Laws.Book.CheckParts.{confirms, refutes, capacity_read, numbers_of_lem, size_of}
 use Rattle.definition.specs.Clauses.LegalBook.{Limit}
 use Rattle.definition.specs.Clauses.Check.{Decides, Lengths}
-use Rattle.register_check.specs.JudgeLaws.{limits_decide, tail_decides}
+use Rattle.register_check.proofs.JudgeLaws.{limits_decide, tail_decides}
 use Rattle.register_check.proofs.header.Goals as goal
 
 pub returns-then-not-are_limits : goal.returns-then-not-are_limits

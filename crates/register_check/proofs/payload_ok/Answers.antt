@@ -1,6 +1,6 @@
 -- Each chain's own test.
 use mathlib.Core.Path.{◌∙◌}
-use Rattle.register_check.specs.WalkLaws.{of_kind, blank_payload}
+use Rattle.register_check.proofs.WalkLaws.{of_kind, blank_payload}
 use Rattle.register_check.specs.declared.Kind.TheVariants.{Active, History, Audit, Free}
 use Rattle.register_check.proofs.payload_ok.Goals as goal
 

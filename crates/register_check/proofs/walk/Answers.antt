@@ -5,7 +5,7 @@ use borrow.Author.Rules.{rules}
 use Rattle.definition.proofs.Laws.Book.LinkLoops.{went_zero, went_past, went_stray}
 use Rattle.register.specs.WalkLaws.{content_width}
 use Rattle.register_check.specs.Meaning.{holds}
-use Rattle.register_check.specs.WalkLaws.{tested_start, tested_on, tested_not, tested_end}
+use Rattle.register_check.proofs.WalkLaws.{tested_start, tested_on, tested_not, tested_end}
 use Rattle.register_check.proofs.walk.Goals as goal
 
 pub loop-k-init : goal.loop-k-init

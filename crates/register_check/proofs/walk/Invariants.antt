@@ -1,7 +1,7 @@
 -- At each turn the records passed are of the chain, the rest of the way decides, and the next record is known.
 use Prim.Native.Nat.{◌-◌}
 use Rattle.register_check.specs.Meaning.{Linked, passes}
-use Rattle.register_check.specs.WalkLaws.{Tested}
+use Rattle.register_check.proofs.WalkLaws.{Tested}
 use Rattle.register_check.proofs.walk.Given as goal
 
 abbrev pub invariant-loop-k : goal.invariant-loop-k
