@@ -43,8 +43,8 @@ uint32_t alarm_open(uint8_t *reg, size_t reg_len, uint32_t active, uint32_t hist
  * refusal *length is 0, and reg and answer are as they were. An answer such as ALARM_CODE_UNAUTHORIZED is no refusal: the
  * result is 0, and the answer's first byte tells.
  *
- * That each function returns its numbers alone is proved (theorem `numbers`, docs/NUMBERS.md): a host that handles the
- * refusals listed below handles all there are.
+ * That each function returns its numbers alone is proved (theorems `numbers` and, of the panel's, `panel_numbers`;
+ * docs/NUMBERS.md): a host that handles the refusals listed below handles all there are.
  *
  * An answer slice of ALARM_ANSWER_ROOM is enough for operations 1 to 7, 11, 13 and 14, and needed for them. A list of n
  * records needs ALARM_LIST_ROOM(n); no answer needs more than ALARM_LIST_ROOM of the largest of the three limits.

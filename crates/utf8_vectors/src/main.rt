@@ -55,13 +55,13 @@ fn answer<W: Write>(writer: &mut W, s: &[u8]) -> io::Result<Form> {
 }
 
 // 1 for a string that is accepted.
-fn mark<W: Write>(writer: &mut W, s: &[u8]) -> io::Result<u8>
-    ensures { IfOk result (λ m. m ≤ 1) }
+fn mark(form: Form) -> u8
+    ensures { result ≤ 1 }
 {
-    if utf8::is_well_formed(answer(writer, s)?) {
-        return Ok(1);
+    if utf8::is_well_formed(form) {
+        return 1;
     }
-    Ok(0)
+    0
 }
 
 // ---- sets of bytes: a mark for each, and behind the last a mark that is never set
@@ -100,7 +100,7 @@ fn fitting<W: Write>(writer: &mut W, s: &mut [u8], at: usize) -> io::Result<[u8;
     let mut b = 0;
     while b < 256 {
         s[at] = b as u8;
-        marks[b] = mark(writer, s)?;
+        marks[b] = mark(answer(writer, s)?);
         b += 1;
     }
     Ok(marks)
@@ -235,7 +235,7 @@ fn accepted<W: Write>(writer: &mut W, text: &[u8], from: usize) -> io::Result<u6
     let mut out = 0;
     while out <= BEHIND {
         let e = text.len() - out;
-        count += wide(mark(writer, &text[from..e])?);
+        count += wide(mark(answer(writer, &text[from..e])?));
         out += 1;
     }
     Ok(count)
@@ -354,7 +354,7 @@ fn main(rt: HostRuntime) -> io::Result<()> {
     let mut reader = rt.reader();
     let mut writer = io::writer(&rt);
     say(&mut writer, b"empty ")?;
-    let empty = wide(mark(&mut writer, b"")?);
+    let empty = wide(mark(answer(&mut writer, b"")?));
     write!(writer, "{empty}")?;
     end_line(&mut writer)?;
     show_singles(&mut writer)?;

@@ -109,7 +109,7 @@ impl Refusal {
             Refusal::Utf8 => "a string of the call is not UTF-8",
             Refusal::Cause => "the cause is not a known name, nor `other:` and a name with a dot",
             Refusal::Region => "the raise has a region that is present and empty",
-            Refusal::AnswerLength => "the slice is too short for the answer, or is not the eight bytes of a panel block",
+            Refusal::AnswerLength => "the slice for the answer is too short",
             Refusal::IdActive => "the raise would store an id that is active",
             Refusal::CodePoints => "the raise's text has more than 120 code points",
             Refusal::End => "the suppression's end is not later than the call's time",
