@@ -213,11 +213,12 @@ def laws(root):
 
 
 def answers(root):
-    """Each wrong answer of tests/wrong can be put into the function that it names."""
+    """Each wrong answer of tests/wrong can be put into the function that it names, and the names that follow are in its proof."""
     for path in sorted((root / "tests/wrong").glob("*.txt")):
         for edit in wrong.edits(path.stem, root):
             try:
                 wrong.changed((root / "crates" / path.stem / edit.file).read_text(encoding="utf-8"), edit)
+                wrong.proofs(root / "crates" / path.stem, edit)
             except (OSError, ValueError) as error:
                 yield f"tests/wrong/{path.name}: {edit.function}: {edit.answer}: {error}"
 

@@ -5,7 +5,8 @@
     make wrong ARGS='octets cause'      those of some crates
 
 tests/wrong/CRATE.txt has those of a crate. A line '== FUNCTION: ANSWER' starts one; 'in FILE' names the function's file where that is not
-src/lib.rt; lines '- ' are text that stands once in the function, and lines '+ ' what takes its place.
+src/lib.rt; lines '- ' are text that stands once in the function, and lines '+ ' what takes its place. The prover names places of a proof by
+the code: where an edit changes such a name, a line '~ OLD NEW' has the function's proof follow, so that its facts are looked at.
 
 They are tried in copies of the repository, where rt begins with what it kept of the same crates. A function is judged by its own proof and
 by the contracts of what it calls, so those of several functions go into one check; one that the check has no word of its own on, since it
@@ -26,7 +27,7 @@ import tempfile
 ROOT = pathlib.Path(__file__).resolve().parent.parent
 JOBS = int(os.environ.get("WRONG_JOBS", "2"))
 
-Edit = collections.namedtuple("Edit", "function answer file pairs")
+Edit = collections.namedtuple("Edit", "function answer file pairs names")
 
 # What the prover says where a name is missing or the text is no Rattle.
 FORM = re.compile(r"has no (field|`)|can be named from here|not in scope|cannot find|mismatched types|expected one of|no such|unknown")
@@ -38,7 +39,7 @@ def edits(crate, root=ROOT):
     """The wrong answers of a crate."""
     for part in re.split(r"^== ", (root / f"tests/wrong/{crate}.txt").read_text(encoding="utf-8"), flags=re.M)[1:]:
         title, *rows = part.rstrip().split("\n")
-        file, pairs = "src/lib.rt", []
+        file, pairs, names = "src/lib.rt", [], []
         for row in rows:
             if row.startswith("in "):
                 file = row[3:]
@@ -48,7 +49,9 @@ def edits(crate, root=ROOT):
                 pairs[-1][0].append(row[2:])
             elif row.startswith("+ "):
                 pairs[-1][1].append(row[2:])
-        yield Edit(*title.split(": ", 1), file, [("\n".join(old), "\n".join(new)) for old, new in pairs])
+            elif row.startswith("~ "):
+                names.append(row[2:].split())
+        yield Edit(*title.split(": ", 1), file, [("\n".join(old), "\n".join(new)) for old, new in pairs], names)
 
 
 def rounds(tries):
@@ -76,6 +79,17 @@ def changed(text, edit):
     return text[:found.start()] + body + text[found.end():]
 
 
+def proofs(home, edit):
+    """The files of the proof of an edit's function, with what stands in them once the names follow the code."""
+    files = {path: path.read_text(encoding="utf-8") for path in sorted(home.glob(f"proofs/**/{edit.function}/*.antt")) if edit.names}
+    for old, new in edit.names:
+        turned = {path: re.sub(rf"(?<!\w){re.escape(old)}(?![\w'])", new, text) for path, text in files.items()}
+        if turned == files:
+            raise ValueError(f"no {old} in the proof of {edit.function}")
+        files = turned
+    return files
+
+
 def copied(place):
     """A place with the repository's crates, without what checks left in them."""
     shutil.copytree(ROOT / "crates", place / "crates", ignore=shutil.ignore_patterns("out"))
@@ -87,8 +101,10 @@ def copied(place):
 def restored(place, crate):
     """The crate as it stands in the repository: other crates are checked in the same place."""
     home = place / "crates" / crate
-    shutil.rmtree(home / "src")
-    shutil.copytree(ROOT / "crates" / crate / "src", home / "src")
+    for part in ("src", "proofs"):
+        if (home / part).exists():
+            shutil.rmtree(home / part)
+            shutil.copytree(ROOT / "crates" / crate / part, home / part)
 
 
 def said(place, crate, batch):
@@ -96,6 +112,8 @@ def said(place, crate, batch):
     for edit in batch:
         source = place / "crates" / crate / edit.file
         source.write_text(changed(source.read_text(encoding="utf-8"), edit), encoding="utf-8")
+        for path, text in proofs(place / "crates" / crate, edit).items():
+            path.write_text(text, encoding="utf-8")
     try:
         job = subprocess.run(["rt", "check"], cwd=place / "crates" / crate, capture_output=True, text=True, errors="replace")
     finally:
