@@ -7,8 +7,8 @@ It renames what the .antt files of crates/ declare outside generated goals: defi
 with a small letter, and the names that a `use .. as` gives. A name keeps its spelling in a file that imports it from the kit.
 The folder Contracts of the definition becomes Clauses, since Rattle makes a module `contracts` beside it. It turns code spans of
 README.md and docs/, and the texts of must-fail edits and of tests/wrong. Where a lemma falls together with a definition, it gets `_lem`
-behind its name; a pair that still falls together is printed.
-Run it once: a second run finds nothing to do.
+behind its name; a pair that still falls together is printed. At the end it lays out every crate by `rt fmt`. Run it once: a second run
+finds nothing to do.
 """
 import collections
 import os
@@ -20,7 +20,8 @@ import sys
 WORD = re.compile(r"[A-Za-z_◌][\w'₀-₉-]*")
 DECLARED = re.compile(r"^\s*(?:(?:pub|unfoldable|abbrev|module|private) )*([^\s:(){}=λ→,;.]+(?: [^\s:(){}=λ→,;.]+)*) :(?=\s|$)")
 KEYWORDS = {"record", "data", "use", "where", "let", "in", "module", "deriving", "do"}
-NO_WORDS = {"Proof.antt"}
+# Files that give the names of goals, which Rattle makes.
+NO_WORDS = {"Proof.antt", "Answers.antt", "Invariants.antt"}
 OLD_FOLDER, NEW_FOLDER = "Contracts", "Clauses"
 
 
