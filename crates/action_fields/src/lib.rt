@@ -13,7 +13,7 @@ ghost use Rattle.action_fields.specs.Meaning.{plain_value, scope_value, actor_va
 ghost use Rattle.action_fields.specs.Meaning.{plain_within, scope_within, ActorWithin, RequestWithin, verdict_within, PolicyWithin};
 
 use fields::{Cursor, StringKind};
-use model::{OptSpan, Record, Span};
+use model::{Record, Span};
 
 // An acknowledgement or a suppression without a policy. The flag is 0 or 1.
 #[derive(Clone, Copy)]
@@ -37,7 +37,7 @@ pub struct Actor {
     pub time: u64,
     pub id: Span,
     pub principal: Span,
-    pub tenant: OptSpan,
+    pub tenant: Option<Span>,
 }
 
 // Why, and for what.
@@ -45,7 +45,7 @@ pub struct Actor {
 pub struct Request {
     pub reason: Span,
     pub scope: Scope,
-    pub correlation: OptSpan,
+    pub correlation: Option<Span>,
 }
 
 // What the authoriser answered. The flags are 0 or 1.

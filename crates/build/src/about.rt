@@ -8,7 +8,7 @@ ghost use Rattle.model.specs.Meaning.{cause_part, object_value, within, opt_with
 ghost use Rattle.build.specs.Stretch.{pair_of, single_of, store_of};
 
 use super::slots;
-use model::{AffectedObject, CauseSpan, OptSpan, Prefix, Record, Span};
+use model::{AffectedObject, CauseSpan, Prefix, Record, Span};
 use record::{AlarmAt, ObjectAt, Slot};
 
 // The cause in its stored form. It is put as a string of a call first.
@@ -49,7 +49,7 @@ fn single_into(p: &mut [u8], call: &[u8], kind: u8, a: Span)
 }
 
 // A session store, with its shard.
-fn store_into(p: &mut [u8], call: &[u8], a: Span, shard: OptSpan)
+fn store_into(p: &mut [u8], call: &[u8], a: Span, shard: Option<Span>)
     requires { (length p.old ≡ payload_width)
         × within call.now short_limit a
         × opt_within call.now short_limit shard }

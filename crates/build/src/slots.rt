@@ -6,7 +6,7 @@ ghost use Rattle.definition.specs.Slot.{string_bytes};
 ghost use Rattle.model.specs.Meaning.{part, within, opt_within};
 ghost use Rattle.build.specs.Stretch.{option_of};
 
-use model::{OptSpan, Span};
+use model::Span;
 use record::Slot;
 
 // A part of the call, in the slot of a string of at most n bytes.
@@ -26,12 +26,12 @@ pub(crate) fn marked_into(p: &mut [u8], at: usize, n: usize, mark: u8, call: &[u
 }
 
 // A part that may be absent.
-pub(crate) fn option_into(p: &mut [u8], at: usize, n: usize, call: &[u8], s: OptSpan)
+pub(crate) fn option_into(p: &mut [u8], at: usize, n: usize, call: &[u8], s: Option<Span>)
     requires { (at + (3 + n) ≤ length p.old) × (n ≤ details_limit) × opt_within call.now n s }
     ensures { p.new ≡ splice p.old at (option_of n call.now s) }
 {
     match s {
-        OptSpan::Absent => octets::put_zeros(p, at, Slot::MARKED + n),
-        OptSpan::Present(q) => marked_into(p, at, n, 1, call, q),
+        None => octets::put_zeros(p, at, Slot::MARKED + n),
+        Some(q) => marked_into(p, at, n, 1, call, q),
     }
 }

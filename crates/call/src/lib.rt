@@ -21,7 +21,7 @@ ghost use Rattle.call.specs.Meaning.{meaning, parsed_within, SaysCall, Means};
 
 use action_fields::{Plain, PlainRead, Policy, PolicyRead};
 use fields::{Cursor, NumRead, StringKind};
-use model::{Action, Deed, OptSpan, Record};
+use model::{Action, Deed, Record, Span};
 use raise_fields::{Clear, ClearRead, Raise, RaiseRead};
 
 // A call, or the number of its first fault.
@@ -33,7 +33,10 @@ pub enum Parsed {
     Policy(Deed, Policy),
     Expire(u64),
     Active(u8),
-    History { tenant: OptSpan, slice: OptSpan },
+    History {
+        tenant: Option<Span>,
+        slice: Option<Span>,
+    },
     Counts,
     Summary,
     TakeAudit(u16),

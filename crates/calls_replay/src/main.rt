@@ -12,7 +12,7 @@ ghost use Rattle.std.specs.Prelude.{◌≤◌, length, IfOk};
 
 use action_fields::{Plain, Policy, Scope};
 use call::Parsed;
-use model::{Action, AffectedObject, CauseSpan, Deed, KeyFields, OptSpan, Places, Span};
+use model::{Action, AffectedObject, CauseSpan, Deed, KeyFields, Places, Span};
 use raise_fields::{Clear, Raise};
 use std::io;
 use std::io::{Read, Write};
@@ -97,10 +97,10 @@ fn show_string<W: Write>(writer: &mut W, call: &[u8], p: Span) -> io::Result<()>
     show_bytes(writer, call, p.at, p.len)
 }
 
-fn show_option<W: Write>(writer: &mut W, call: &[u8], o: OptSpan) -> io::Result<()> {
+fn show_option<W: Write>(writer: &mut W, call: &[u8], o: Option<Span>) -> io::Result<()> {
     match o {
-        OptSpan::Absent => say(writer, b" -"),
-        OptSpan::Present(p) => show_string(writer, call, p),
+        None => say(writer, b" -"),
+        Some(p) => show_string(writer, call, p),
     }
 }
 
@@ -254,8 +254,8 @@ fn show_policy<W: Write>(writer: &mut W, call: &[u8], deed: Deed, p: Policy) -> 
 fn show_history<W: Write>(
     writer: &mut W,
     call: &[u8],
-    tenant: OptSpan,
-    slice: OptSpan,
+    tenant: Option<Span>,
+    slice: Option<Span>,
 ) -> io::Result<()> {
     say_operation(writer, 9)?;
     show_option(writer, call, tenant)?;

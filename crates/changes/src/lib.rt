@@ -19,7 +19,7 @@ ghost use Rattle.model.specs.Meaning.{part, opt_part, within, opt_within, action
 ghost use Rattle.history.specs.Meaning.{IsAlarm};
 ghost use Rattle.changes.specs.Meaning.{Turns, NewsWithin, news_of, updated_with};
 
-use model::{Action, Deed, OptSpan, Span};
+use model::{Action, Deed, Span};
 
 // ---- "Plain 3, 4": the state of the action, the later time, and operation 13's end
 
@@ -119,13 +119,13 @@ fn put_details(p: &mut [u8], call: &[u8], s: Span)
     record::set_details(p, model::part(call, s));
 }
 
-fn set_details(p: &mut [u8], call: &[u8], details: OptSpan)
+fn set_details(p: &mut [u8], call: &[u8], details: Option<Span>)
     requires { (length p.old ≡ payload_width) × opt_within call.now details_limit details }
     ensures { Turns (with_details (opt_part call.now details)) p.old p.new }
 {
     match details {
-        OptSpan::Absent => record::no_details(p),
-        OptSpan::Present(s) => put_details(p, call, s),
+        None => record::no_details(p),
+        Some(s) => put_details(p, call, s),
     }
 }
 
@@ -142,7 +142,7 @@ pub struct News {
     pub time: u64,
     pub severity: u8,
     pub text: Span,
-    pub details: OptSpan,
+    pub details: Option<Span>,
 }
 
 pub fn updated_by(p: &mut [u8], call: &[u8], news: News)

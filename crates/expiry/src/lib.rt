@@ -18,7 +18,7 @@ ghost use Rattle.history.specs.Meaning.{Newest, OnActive, Files};
 ghost use Rattle.history.specs.Walk.{alarm_at};
 ghost use Rattle.expiry.specs.Sweep.{takes, step_of, kept_by, Swept, Passes};
 
-use model::{OptTime, Record};
+use model::Record;
 use register::{ACTIVE, Ends};
 
 // What a sweep does to the alarms that it takes.
@@ -38,12 +38,12 @@ fn is_due(register: &[u8], i: u32, cutoff: u64) -> bool
     time::is_before(record::updated_at(register::payload(register, i)), cutoff)
 }
 
-fn has_ended(end: OptTime, cutoff: u64) -> bool
+fn has_ended(end: Option<u64>, cutoff: u64) -> bool
     ensures { result ≡ has_ended cutoff (opt_time end) }
 {
     match end {
-        OptTime::Absent => false,
-        OptTime::Present(t) => !time::is_before(cutoff, t),
+        None => false,
+        Some(t) => !time::is_before(cutoff, t),
     }
 }
 

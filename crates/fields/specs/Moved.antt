@@ -2,8 +2,8 @@
 use Rattle.std.specs.Prelude.{ℕ, ◌+◌, ◌≤◌, ◌≡◌, [], length, drop}
 use Rattle.octets.specs.Bytes.{Bytes}
 use Rattle.model.specs.declared.Span.{Span}
-use Rattle.model.specs.declared.OptSpan.{OptSpan}
-use Rattle.model.specs.declared.OptSpan.TheVariants.{Absent, Present}
+use Rattle.model.specs.Meaning.{OptSpan}
+use Rattle.std.specs.Prelude.{None, Some}
 use Rattle.model.specs.declared.CauseSpan.{CauseSpan}
 use Rattle.model.specs.declared.CauseSpan.TheVariants.{Name, Other}
 use Rattle.fields.specs.declared.Cursor.{Cursor}
@@ -29,8 +29,8 @@ abbrev pub span_on : ℕ → Span → Span
 span_on i p = record { at = i + p.at; len = p.len }
 
 abbrev pub option_on : ℕ → OptSpan → OptSpan
-option_on i Absent = Absent
-option_on i (Present p) = Present (span_on i p)
+option_on i None = None
+option_on i (Some p) = Some (span_on i p)
 
 abbrev pub cause_on : ℕ → CauseSpan → CauseSpan
 cause_on i (Name k) = Name k
@@ -38,8 +38,8 @@ cause_on i (Other p) = Other (span_on i p)
 
 -- where a span starts, if there is one
 abbrev pub option_start : OptSpan → ℕ
-option_start Absent = 0
-option_start (Present p) = p.at
+option_start None = 0
+option_start (Some p) = p.at
 
 abbrev pub cause_start : CauseSpan → ℕ
 cause_start (Name k) = 0

@@ -7,8 +7,8 @@ use Rattle.octets.specs.PartLaws.{part_rest}
 use Rattle.definition.specs.Reader.{Reader}
 use Rattle.model.specs.Meaning.{part, opt_part, cause_part, within, opt_within, cause_within}
 use Rattle.model.specs.declared.Span.{Span}
-use Rattle.model.specs.declared.OptSpan.{OptSpan}
-use Rattle.model.specs.declared.OptSpan.TheVariants.{Absent, Present}
+use Rattle.model.specs.Meaning.{OptSpan}
+use Rattle.std.specs.Prelude.{None, Some}
 use Rattle.model.specs.declared.CauseSpan.{CauseSpan}
 use Rattle.model.specs.declared.CauseSpan.TheVariants.{Name, Other}
 use Rattle.fields.specs.Cursor.{Reads, Says}
@@ -37,12 +37,12 @@ span_moves limit = record { means = span_means; lies = λ call i p h w. (span_li
 
 module _ (call : Bytes) (i : ℕ) where
   option_means : (a : OptSpan) → opt_part call (option_on i a) ≡ opt_part (drop i call) a
-  option_means Absent = refl
-  option_means (Present p) = rw (span_means call i p)
+  option_means None = refl
+  option_means (Some p) = rw (span_means call i p)
 
   option_lies : (limit : ℕ) (a : OptSpan) → i ≤ length call → opt_within (drop i call) limit a → opt_within call limit (option_on i a)
-  option_lies limit Absent h w = tt
-  option_lies limit (Present p) h w = (span_lies call i p h w.0, w.1)
+  option_lies limit None h w = tt
+  option_lies limit (Some p) h w = (span_lies call i p h w.0, w.1)
 
   cause_means : (a : CauseSpan) → cause_part call (cause_on i a) ≡ cause_part (drop i call) a
   cause_means (Name k) = refl
@@ -61,8 +61,8 @@ cause_moves = record { means = cause_means; lies = cause_lies }
 -- what lies in a part starts in it
 
 pub option_starts : (left : Bytes) (limit : ℕ) (p : OptSpan) → opt_within left limit p → option_start p ≤ length left
-option_starts left limit Absent w = omega arith
-option_starts left limit (Present p) w = omega arith
+option_starts left limit None w = omega arith
+option_starts left limit (Some p) w = omega arith
 
 pub cause_starts : (left : Bytes) (p : CauseSpan) → cause_within left p → cause_start p ≤ length left
 cause_starts left (Name k) w = omega arith

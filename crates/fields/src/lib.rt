@@ -21,7 +21,7 @@ ghost use Rattle.fields.specs.Part.{reached};
 ghost use Rattle.fields.specs.Moved.{Starts, cursor_on, span_on, option_on, option_start, cause_on, cause_start};
 ghost use Rattle.fields.specs.StringKind.{string_by};
 
-use model::{CauseSpan, OptSpan, Span};
+use model::{CauseSpan, Span};
 
 mod part;
 
@@ -56,7 +56,7 @@ pub struct SpanRead {
 
 #[derive(Clone, Copy)]
 pub struct OptSpanRead {
-    pub span: OptSpan,
+    pub span: Option<Span>,
     pub next: Cursor,
 }
 
@@ -128,13 +128,13 @@ fn span_on(p: Span, i: usize) -> Span
     }
 }
 
-fn option_on(p: OptSpan, i: usize) -> OptSpan
+fn option_on(p: Option<Span>, i: usize) -> Option<Span>
     requires { i + option_start p < 2 ^ 64 }
     ensures { result ≡ option_on i p }
 {
     match p {
-        OptSpan::Absent => OptSpan::Absent,
-        OptSpan::Present(q) => OptSpan::Present(span_on(q, i)),
+        None => None,
+        Some(q) => Some(span_on(q, i)),
     }
 }
 

@@ -16,7 +16,7 @@ use super::{
     refuse_unless, string_at,
 };
 use cause::Cause;
-use model::{CauseSpan, OptSpan, Prefix, Record, Span};
+use model::{CauseSpan, Prefix, Record, Span};
 
 // ---- bytes and numbers
 
@@ -137,7 +137,7 @@ pub fn read_option(left: &[u8], limit: usize, kind: StringKind) -> OptSpanRead
     let next = b.next;
     if b.value == 0 {
         return OptSpanRead {
-            span: OptSpan::Absent,
+            span: None,
             next: next,
         };
     }
@@ -145,7 +145,7 @@ pub fn read_option(left: &[u8], limit: usize, kind: StringKind) -> OptSpanRead
     let p = t.span;
     let end = t.next;
     OptSpanRead {
-        span: OptSpan::Present(p),
+        span: Some(p),
         next: end,
     }
 }

@@ -9,7 +9,7 @@ use Rattle.definition.specs.Key.{string, optional, strings, decimal, parts, fed_
 use Rattle.model.specs.declared.AffectedObject.{AffectedObject}
 use Rattle.model.specs.declared.AffectedObject.TheVariants.{SessionStore}
 use Rattle.model.specs.declared.Span.{Span}
-use Rattle.model.specs.declared.OptSpan.{OptSpan}
+use Rattle.model.specs.Meaning.{OptSpan}
 use Rattle.model.specs.Meaning.{part, opt_part, object_value}
 use Rattle.key.specs.Hashed.{tagged_one, tagged_two}
 

@@ -14,8 +14,8 @@ use Rattle.definition.proofs.Laws.Text.Key.{length_string, length_decimal}
 use Rattle.model.specs.declared.AffectedObject.{AffectedObject}
 use Rattle.model.specs.declared.AffectedObject.TheVariants as O
 use Rattle.model.specs.declared.Span.{Span}
-use Rattle.model.specs.declared.OptSpan.{OptSpan}
-use Rattle.model.specs.declared.OptSpan.TheVariants.{Absent, Present}
+use Rattle.model.specs.Meaning.{OptSpan}
+use Rattle.std.specs.Prelude.{None, Some}
 use Rattle.model.specs.declared.Places.{Places}
 use Rattle.model.specs.declared.KeyFields.{KeyFields}
 use Rattle.model.specs.Meaning.{part, opt_part, cause_part, object_value, places_value, key_value, within, opt_within, object_within, PlacesWithin, KeyWithin}
@@ -70,8 +70,8 @@ module _ (call : Bytes) where
   part_most n p w = string_most_lem (part call p) n (part_short call n p refl w)
 
   option_most_lem : (n : ℕ) (p : OptSpan) → opt_within call n p → Most (optional (opt_part call p)) (option_most n)
-  option_most_lem n Absent w = record { most = omega arith }
-  option_most_lem n (Present p) w = both {u = 1 ∷ []} (record { most = lit≤ tt }) (part_most n p w)
+  option_most_lem n None w = record { most = omega arith }
+  option_most_lem n (Some p) w = both {u = 1 ∷ []} (record { most = lit≤ tt }) (part_most n p w)
 
   module _ (t : Bytes) (h : length t ≤ tag_most) (a : Span) where
     single_most : within call short_limit a → Most (tagged_one t (part call a)) (string_most tag_most + string_most short_limit)
@@ -120,8 +120,8 @@ module _ (call : Bytes) where
   -- ---- an option within the limit of tenant and slice is within that of a region
 
   pub option_wider : (p : OptSpan) → opt_within call short_limit p → opt_within call region_limit p
-  option_wider Absent w = tt
-  option_wider (Present p) w = (w.0, omega arith)
+  option_wider None w = tt
+  option_wider (Some p) w = (w.0, omega arith)
 
   pub shard_wider : {o : AffectedObject} {a : Span} {h : OptSpan} → o ≡ O.SessionStore a h → object_within call o → opt_within call region_limit h
   shard_wider {h = h} e w = option_wider h (object_case call e w).1

@@ -18,7 +18,7 @@ ghost use Rattle.model.specs.Meaning.{part, opt_part, object_value, places_value
 ghost use Rattle.model.specs.Meaning.{within, opt_within, object_within, PlacesWithin, KeyWithin};
 ghost use Rattle.key.specs.Hashed.{hashed_width, Room, tagged_one, tagged_two};
 
-use model::{AffectedObject, KeyFields, OptSpan, Places, Prefix, Record, Span, part};
+use model::{AffectedObject, KeyFields, Places, Prefix, Record, Span, part};
 
 // ---- the width of what is hashed, from the record's limits
 
@@ -48,16 +48,16 @@ fn put_present(buf: &mut [u8], at: usize, s: &[u8]) -> usize
     strings::put_string(buf, at + 1, s)
 }
 
-fn put_option(buf: &mut [u8], at: usize, call: &[u8], p: OptSpan) -> usize
+fn put_option(buf: &mut [u8], at: usize, call: &[u8], p: Option<Span>) -> usize
     requires { Room buf.old at (optional (opt_part call.now p)) × opt_within call.now region_limit p }
     ensures { Put buf.old at (optional (opt_part call.now p)) result buf.new }
 {
     match p {
-        OptSpan::Absent => {
+        None => {
             octets::put_byte(buf, at, 0);
             at + 1
         }
-        OptSpan::Present(q) => put_present(buf, at, part(call, q)),
+        Some(q) => put_present(buf, at, part(call, q)),
     }
 }
 

@@ -10,7 +10,7 @@ ghost use Rattle.std.specs.Prelude.{◌≡◌, length};
 ghost use Rattle.model.specs.Meaning.{object_within};
 ghost use Rattle.key_vectors.specs.Vectors.{Fit};
 
-use model::{AffectedObject, CauseSpan, KeyFields, OptSpan, Places, Span};
+use model::{AffectedObject, CauseSpan, KeyFields, Places, Span};
 use std::io;
 use std::io::Write;
 
@@ -69,10 +69,10 @@ fn first_kinds<W: Write>(
     show(writer, call, n, cause, interface, places)?;
     let peer = AffectedObject::Peer { nf, peer_id: name };
     show(writer, call, n, cause, peer, places)?;
-    let shard = OptSpan::Absent;
+    let shard = None;
     let store = AffectedObject::SessionStore { nf, shard };
     show(writer, call, n, cause, store, places)?;
-    let named = OptSpan::Present(name);
+    let named = Some(name);
     let part = AffectedObject::SessionStore { nf, shard: named };
     show(writer, call, n, cause, part, places)
 }
@@ -111,9 +111,9 @@ fn kinds<W: Write>(
     n: usize,
     queue: u16,
     cause: CauseSpan,
-    tenant: OptSpan,
-    slice: OptSpan,
-    region: OptSpan,
+    tenant: Option<Span>,
+    slice: Option<Span>,
+    region: Option<Span>,
 ) -> io::Result<()>
     requires { Fit call.now n cause (record { tenant = tenant; slice = slice; region = region }) }
 {
@@ -130,10 +130,10 @@ fn kinds<W: Write>(
 fn objects<W: Write>(writer: &mut W, call: &[u8]) -> io::Result<()>
     requires { length call.now ≡ 256 }
 {
-    let none = OptSpan::Absent;
-    let empty = OptSpan::Present(Span { at: 9, len: 0 });
-    let long = OptSpan::Present(Span { at: 100, len: 64 });
-    let region = OptSpan::Present(Span { at: 128, len: 128 });
+    let none = None;
+    let empty = Some(Span { at: 9, len: 0 });
+    let long = Some(Span { at: 100, len: 64 });
+    let region = Some(Span { at: 128, len: 128 });
     let other = CauseSpan::Other(Span { at: 40, len: 3 });
     let longest = CauseSpan::Other(Span { at: 40, len: 90 });
     let last_name = CauseSpan::Name(20);
@@ -149,7 +149,7 @@ fn objects<W: Write>(writer: &mut W, call: &[u8]) -> io::Result<()>
 fn causes<W: Write>(writer: &mut W, call: &[u8]) -> io::Result<()>
     requires { length call.now ≡ 256 }
 {
-    let none = OptSpan::Absent;
+    let none = None;
     let places = Places {
         tenant: none,
         slice: none,

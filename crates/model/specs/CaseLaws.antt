@@ -2,7 +2,7 @@
 use Rattle.std.specs.Prelude.{◌≡◌, ℕ}
 use Rattle.std.proofs.Common.{subst}
 use Rattle.octets.specs.Bytes.{Bytes}
-use Rattle.model.specs.declared.OptSpan.{OptSpan}
+use Rattle.model.specs.Meaning.{OptSpan}
 use Rattle.model.specs.declared.AffectedObject.{AffectedObject}
 use Rattle.model.specs.Meaning.{opt_within, object_within}
 

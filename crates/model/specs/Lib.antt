@@ -1,4 +1,5 @@
 pub mod Meaning
+pub mod Refusal
 pub mod CaseLaws
 pub mod Opening
 pub mod OpeningLaws

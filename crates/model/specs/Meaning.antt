@@ -10,11 +10,9 @@ use Rattle.model.specs.declared.Action.{Action}
 use Rattle.model.specs.declared.Action.TheVariants.{Acknowledge, Suppress}
 use Rattle.model.specs.declared.Deed.{Deed}
 use Rattle.model.specs.declared.Deed.TheVariants.{Untimed, Until}
-use Rattle.model.specs.declared.OptTime.{OptTime}
-use Rattle.model.specs.declared.OptTime.TheVariants as T
 use Rattle.model.specs.declared.Span.{Span}
-use Rattle.model.specs.declared.OptSpan.{OptSpan}
-use Rattle.model.specs.declared.OptSpan.TheVariants.{Absent, Present}
+use Rattle.std.specs.Prelude.{None, Some}
+use Rattle.std.specs.Prelude as Std
 use Rattle.model.specs.declared.CauseSpan.{CauseSpan}
 use Rattle.model.specs.declared.CauseSpan.TheVariants.{Name, Other}
 use Rattle.model.specs.declared.AffectedObject.{AffectedObject}
@@ -27,9 +25,13 @@ use Rattle.model.specs.declared.KeyFields.{KeyFields}
 abbrev pub part : Bytes → Span → Bytes
 part call p = take p.len (drop p.at call)
 
+-- a part that may be absent, as the code has it
+abbrev pub OptSpan : Type 0
+OptSpan = Std.Option Span
+
 abbrev pub opt_part : Bytes → OptSpan → Option Bytes
-opt_part call Absent = none
-opt_part call (Present p) = some (part call p)
+opt_part call None = none
+opt_part call (Some p) = some (part call p)
 
 abbrev pub cause_part : Bytes → CauseSpan → Bytes
 cause_part call (Name k) = get_or names k []
@@ -59,8 +61,8 @@ abbrev pub within : Bytes → ℕ → Span → Type 0
 within call limit p = (p.at + p.len ≤ length call) × (p.len ≤ limit)
 
 abbrev pub opt_within : Bytes → ℕ → OptSpan → Type 0
-opt_within call limit Absent = Unit
-opt_within call limit (Present p) = within call limit p
+opt_within call limit None = Unit
+opt_within call limit (Some p) = within call limit p
 
 -- the stored form, `other:` included, is within the limit
 abbrev pub cause_within : Bytes → CauseSpan → Type 0
@@ -99,6 +101,6 @@ deed_of (Until end) = Value.until end
 
 -- ---- times
 
-abbrev pub opt_time : OptTime → Option ℕ
-opt_time T.Absent = none
-opt_time (T.Present t) = some t
+abbrev pub opt_time : Std.Option ℕ → Option ℕ
+opt_time None = none
+opt_time (Some t) = some t

@@ -7,8 +7,8 @@ use Rattle.definition.specs.Parse.{raise_body}
 use Rattle.definition.specs.Value.{RaiseHeadValue, RaiseValue, ClearValue}
 use Rattle.model.specs.Meaning.{part, opt_part, key_value, within, opt_within, KeyWithin}
 use Rattle.model.specs.declared.KeyFields.{KeyFields}
-use Rattle.model.specs.declared.OptSpan.{OptSpan}
-use Rattle.model.specs.declared.OptSpan.TheVariants.{Absent, Present}
+use Rattle.model.specs.Meaning.{OptSpan}
+use Rattle.std.specs.Prelude.{None, Some}
 use Rattle.raise_fields.specs.declared.RaiseHead.{RaiseHead}
 use Rattle.raise_fields.specs.declared.Raise.{Raise}
 use Rattle.raise_fields.specs.declared.Clear.{Clear}
@@ -31,8 +31,8 @@ body_behind call h k = raise_body (head_value call h) (key_value call k)
 
 -- a region that is there has a byte
 abbrev pub named_span : OptSpan → Bool
-named_span Absent = true
-named_span (Present p) = ltb 0 p.len
+named_span None = true
+named_span (Some p) = ltb 0 p.len
 
 -- ---- every part lies within the call and its limit
 

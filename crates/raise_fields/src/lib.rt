@@ -14,7 +14,7 @@ ghost use Rattle.fields.specs.Cursor.{Says};
 ghost use Rattle.raise_fields.specs.Meaning.{head_value, raise_value, clear_value, body_behind, named_span, HeadWithin, RaiseWithin, ClearWithin};
 
 use fields::{Cursor, StringKind};
-use model::{KeyFields, OptSpan, Record, Span};
+use model::{KeyFields, Record, Span};
 
 // How a raise begins.
 #[derive(Clone, Copy)]
@@ -30,7 +30,7 @@ pub struct Raise {
     pub head: RaiseHead,
     pub key: KeyFields,
     pub text: Span,
-    pub details: OptSpan,
+    pub details: Option<Span>,
 }
 
 #[derive(Clone, Copy)]
@@ -86,12 +86,12 @@ fn head_at(call: &[u8], at: Cursor) -> HeadRead
 }
 
 // Whether a region has a byte, where there is one.
-fn is_named(region: OptSpan) -> bool
+fn is_named(region: Option<Span>) -> bool
     ensures { result ≡ named_span region }
 {
     match region {
-        OptSpan::Absent => true,
-        OptSpan::Present(p) => 0 < p.len,
+        None => true,
+        Some(p) => 0 < p.len,
     }
 }
 

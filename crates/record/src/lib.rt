@@ -19,7 +19,7 @@ ghost use Rattle.model.specs.Meaning.{opt_time};
 ghost use Rattle.record.specs.Meaning.{string_at, option_at};
 ghost use Rattle.record.specs.Change.{Becomes};
 
-use model::{OptTime, Record};
+use model::Record;
 
 mod places;
 
@@ -63,14 +63,14 @@ pub fn raises(p: &[u8]) -> u32
 }
 
 // The end of a suppression.
-pub fn end(p: &[u8]) -> OptTime
+pub fn end(p: &[u8]) -> Option<u64>
     requires { length p.now ≡ payload_width }
     ensures { opt_time result ≡ (read_alarm p.now).end }
 {
     if p[AlarmAt::END] == 0 {
-        return OptTime::Absent;
+        return None;
     }
-    OptTime::Present(octets::get64(p, AlarmAt::END + Slot::MARK))
+    Some(octets::get64(p, AlarmAt::END + Slot::MARK))
 }
 
 // The string in a slot; all of its room where the length is above it.

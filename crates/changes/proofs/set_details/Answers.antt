@@ -4,10 +4,10 @@ use Rattle.changes.proofs.set_details.Goals as goal
 
 pub put_details-requires : goal.put_details-requires
 put_details-requires c =
-    (search rules, rw c.in-Present.is at c.requires.1)
+    (search rules, rw c.in-Some.is at c.requires.1)
 
-pub returns-in-Absent : goal.returns-in-Absent
-returns-in-Absent c = rw c.in-Absent.is c.no_details.ensures.alarm
+pub returns-in-None : goal.returns-in-None
+returns-in-None c = rw c.in-None.is c.no_details.ensures.alarm
 
-pub returns-in-Present : goal.returns-in-Present
-returns-in-Present c = rw c.in-Present.is c.put_details.ensures
+pub returns-in-Some : goal.returns-in-Some
+returns-in-Some c = rw c.in-Some.is c.put_details.ensures

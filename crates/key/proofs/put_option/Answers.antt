@@ -10,22 +10,22 @@ use Rattle.key.proofs.put_option.Goals as goal
 
 pub put_byte-requires : goal.put_byte-requires
 put_byte-requires c =
-    let r = room_as (option_fed _ c.in-Absent.is refl) c.requires.0 in
+    let r = room_as (option_fed _ c.in-None.is refl) c.requires.0 in
     omega (arith, r.width, r.fits)
 
 pub part-requires : goal.part-requires
 part-requires c =
-    (option_case _ _ c.in-Present.is c.requires.1).0
+    (option_case _ _ c.in-Some.is c.requires.1).0
 
 pub put_present-requires : goal.put_present-requires
 put_present-requires c =
-    room_as (option_fed _ c.in-Present.is (ap some c.part.ensures)) c.requires.0
+    room_as (option_fed _ c.in-Some.is (ap some c.part.ensures)) c.requires.0
 
-pub returns-in-Absent : goal.returns-in-Absent
-returns-in-Absent c =
-    let absent = option_fed _ c.in-Absent.is refl in
+pub returns-in-None : goal.returns-in-None
+returns-in-None c =
+    let absent = option_fed _ c.in-None.is refl in
     put_as absent (byte_put (room_as absent c.requires.0) c.put_byte.ensures)
 
-pub returns-in-Present : goal.returns-in-Present
-returns-in-Present c =
-    put_as (option_fed _ c.in-Present.is (ap some c.part.ensures)) c.put_present.ensures
+pub returns-in-Some : goal.returns-in-Some
+returns-in-Some c =
+    put_as (option_fed _ c.in-Some.is (ap some c.part.ensures)) c.put_present.ensures

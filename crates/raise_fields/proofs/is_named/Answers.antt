@@ -3,5 +3,5 @@ use mathlib.Core.Path.{sym, ap}
 use Rattle.raise_fields.specs.Meaning.{named_span}
 use Rattle.raise_fields.proofs.is_named.Goals as goal
 
-pub returns-in-Present : goal.returns-in-Present
-returns-in-Present c = sym (ap named_span c.in-Present.is)
+pub returns-in-Some : goal.returns-in-Some
+returns-in-Some c = sym (ap named_span c.in-Some.is)

@@ -4,11 +4,11 @@ use borrow.Author.Rules.{rules}
 use Rattle.build.proofs.slots.option_into.Goals as goal
 
 pub marked_into-requires : goal.marked_into-requires
-marked_into-requires c = (search rules, search rules, rw c.in-Present.is at c.requires.2)
+marked_into-requires c = (search rules, search rules, rw c.in-Some.is at c.requires.2)
 
-pub returns-in-Absent : goal.returns-in-Absent
-returns-in-Absent c =
-    rw c.in-Absent.is (absent c.args.p.now c.args.at c.args.n c.put_zeros.ensures)
+pub returns-in-None : goal.returns-in-None
+returns-in-None c =
+    rw c.in-None.is (absent c.args.p.now c.args.at c.args.n c.put_zeros.ensures)
 
-pub returns-in-Present : goal.returns-in-Present
-returns-in-Present c = rw c.in-Present.is c.marked_into.ensures
+pub returns-in-Some : goal.returns-in-Some
+returns-in-Some c = rw c.in-Some.is c.marked_into.ensures
