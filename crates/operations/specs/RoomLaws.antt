@@ -12,7 +12,7 @@ use Rattle.definition.specs.Steps.{plain, policy}
 use Rattle.definition.specs.Perform.{step_for, in_record, in_length, asks_record, perform}
 use Rattle.definition.specs.Sound.{station}
 use Rattle.definition.specs.Clauses.Does.{Refuses}
-use Rattle.reply.specs.declared.Reply.{Reply}
+use Rattle.reply.specs.Meaning.{Reply}
 use Rattle.reply.specs.Meaning.{Replies}
 use Rattle.reply.specs.ReplyLaws.{replies_at}
 use Rattle.operations.specs.Meaning.{with_room}

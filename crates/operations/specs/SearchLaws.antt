@@ -9,7 +9,7 @@ use Rattle.definition.specs.Alarm.{Alarm, has_key}
 use Rattle.definition.specs.Station.{◌>>=◌}
 use Rattle.definition.specs.Steps.{raise_at, raise, clear_at, clear}
 use Rattle.definition.specs.Sound.{station}
-use Rattle.reply.specs.declared.Reply.{Reply}
+use Rattle.reply.specs.Meaning.{Reply}
 use Rattle.reply.specs.Meaning.{Replies}
 use Rattle.reply.specs.ReplyLaws.{replies_at}
 

@@ -21,7 +21,7 @@ ghost use Rattle.reply.specs.Meaning.{Replies};
 ghost use Rattle.operations.specs.Meaning.{Called, HasRoom, with_room};
 
 use call::Parsed;
-use model::{Answer, Record};
+use model::{Answer, Record, Refusal};
 use raise_fields::{Clear, Raise};
 use register::Ends;
 use reply::Reply;
@@ -110,22 +110,22 @@ fn dispatch(
 {
     match parsed {
         Parsed::Raise(r) => raise(register, ends, call, r, answer),
-        Parsed::Clear(c) => Reply::Answered(clear(register, ends, call, c, answer)),
-        Parsed::Plain(action, p) => Reply::Answered(state::plain(
+        Parsed::Clear(c) => Ok(clear(register, ends, call, c, answer)),
+        Parsed::Plain(action, p) => Ok(state::plain(
             register, ends, call, p, action, answer,
         )),
-        Parsed::Policy(deed, p) => Reply::Answered(admin::apply_admin_action(
+        Parsed::Policy(deed, p) => Ok(admin::apply_admin_action(
             register, ends, call, p, deed, answer,
         )),
-        Parsed::Expire(cutoff) => Reply::Answered(expiry::expire(register, ends, cutoff, answer)),
+        Parsed::Expire(cutoff) => Ok(expiry::expire(register, ends, cutoff, answer)),
         Parsed::Active(severity) => alarm_lists::active_list(register, severity, answer),
         Parsed::History { tenant, slice } => alarm_lists::history_list(
             register, call, tenant, slice, answer,
         ),
         Parsed::Counts => metrics::counts(register, answer),
-        Parsed::Summary => Reply::Answered(metrics::summary(register, answer)),
+        Parsed::Summary => Ok(metrics::summary(register, answer)),
         Parsed::TakeAudit(n) => audit_log::take_audit(register, n, answer),
-        Parsed::Lift(cutoff) => Reply::Answered(expiry::lift(register, ends, cutoff, answer)),
+        Parsed::Lift(cutoff) => Ok(expiry::lift(register, ends, cutoff, answer)),
         Parsed::Refused(k) => Reply::Refused(k as u32),
     }
 }
@@ -149,7 +149,7 @@ pub fn perform(
 {
     let lacks = answer.len() < ROOM;
     if asks_record(parsed) & lacks {
-        return Reply::Refused(30);
+        return Err(Refusal::AnswerLength);
     }
     dispatch(register, ends, call, parsed, answer)
 }

@@ -1,5 +1,5 @@
 -- The block: the mask, the highest bit that is set in both, and the eight bytes as they are written.
-use Rattle.std.specs.Prelude.{ℕ, ◌%◌, ◌^◌, ◌≡◌, refl, List, [], ◌∷◌, ◌++◌, Bool, cond, ◌&&◌, T, eqb, length}
+use Rattle.std.specs.Prelude.{ℕ, ◌%◌, ◌^◌, ◌≡◌, refl, List, [], ◌∷◌, ◌++◌, Bool, cond, ◌&&◌, T, eqb, length, Ok, Err}
 use Rattle.std.proofs.Common.{ap, ap₂, ◌∙◌, arith, lt-ltb, eq-eqb, ne_eqb}
 use Rattle.std.specs.Int.Bits.{bit_and}
 use Rattle.octets.specs.Bytes.{Bytes, at32, be32, splice}
@@ -11,6 +11,7 @@ use Rattle.definition.specs.Sound.{sound}
 use Rattle.history.specs.Walk.{alarms_on}
 use Rattle.history.specs.WalkLaws.{held_length}
 use Rattle.panel.specs.declared.PanelCall.{PanelCall}
+use Rattle.model.specs.declared.refusal.Refusal.TheVariants.{AnswerLength}
 use Rattle.panel.specs.Meaning.{call_of, Shows}
 use Rattle.panel.specs.BitLaws.{set_and, bits_same, bits_own, bits_are, highest_same}
 
@@ -36,13 +37,13 @@ eight_bytes k f m h l n q =
 -- ---- what a call shows
 
 -- "a block not of eight bytes 30, the block unchanged"
-pub other_width : (b k : Bytes) (call : PanelCall) → (length k ≡ 8 → ⊥) → Shows b k call 30 k
+pub other_width : (b k : Bytes) (call : PanelCall) → (length k ≡ 8 → ⊥) → Shows b k call (Err AnswerLength) k
 other_width b k call h = let e = ne_eqb (length k) 8 h in record { number_is = rw e; block_is = rw e }
 
 -- flags f, mask m, the highest of both h, the lamp l, and n active alarms are written to a block k of eight bytes
 pub made_anew :
     (b k k' : Bytes) (call : PanelCall) {u f m h l n : ℕ} → T (sound b) → length k ≡ 8 → f ≡ by_bits 8 (is_flagged (alarms_on 0 b)) → u ≡ mask_of (call_of call) k → m ≡ by_bits 8 (in_mask u) →
-    h ≡ highest 8 (is_set (bit_and f m)) → l ≡ cond (eqb h 0) 0 1 → n ≡ at32 b 16 → k' ≡ splice (splice k 0 (f ∷ m ∷ h ∷ l ∷ [])) 4 (be32 n) → Shows b k call 0 k'
+    h ≡ highest 8 (is_set (bit_and f m)) → l ≡ cond (eqb h 0) 0 1 → n ≡ at32 b 16 → k' ≡ splice (splice k 0 (f ∷ m ∷ h ∷ l ∷ [])) 4 (be32 n) → Shows b k call (Ok tt) k'
 unfolding panel_of
 made_anew b k k' call {u} {f} {m} {h} {l} {n} t w ef eu em eh el en ek =
     let top : h ≡ highest_of (alarms_on 0 b) u = eh ∙ ap₂ (λ (x y : ℕ). highest 8 (is_set (bit_and x y))) ef em ∙ in_both (alarms_on 0 b) u in

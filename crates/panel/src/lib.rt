@@ -13,6 +13,7 @@ ghost use Rattle.definition.specs.Sound.{sound};
 ghost use Rattle.history.specs.Walk.{alarms_on};
 ghost use Rattle.panel.specs.Meaning.{call_of, flag_of, Shows};
 
+use model::Refusal;
 use register::ACTIVE;
 
 // A call on the panel: a look, or a write of a value to the byte at a place.
@@ -110,18 +111,18 @@ fn lit(highest: u8) -> u8
     if highest == 0 { 0 } else { 1 }
 }
 
-// Makes the block anew. Returns 0; or 30, and the block is as it was, where that does not have eight bytes.
-pub fn show(register: &[u8], block: &mut [u8], call: PanelCall) -> u32
+// Makes the block anew; or refuses, and the block is as it was, where that does not have eight bytes.
+pub fn show(register: &[u8], block: &mut [u8], call: PanelCall) -> Result<(), Refusal>
     requires { T (sound register.now) }
     ensures { Shows register.now block.old call result block.new }
 {
     if block.len() != PanelAt::WIDTH {
-        return 30;
+        return Err(Refusal::AnswerLength);
     }
     let set = flags(register);
     let mask = kept(mask_of(block, call));
     let top = highest(set, mask);
     octets::put_bytes(block, PanelAt::FLAGS, &[set, mask, top, lit(top)]);
     octets::put32(block, PanelAt::ACTIVE, register::held(register, ACTIVE));
-    0
+    Ok(())
 }

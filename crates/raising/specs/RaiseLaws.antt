@@ -26,7 +26,7 @@ use Rattle.history.specs.DoesLaws.{does_then, does_look, does_yes, does_no}
 use Rattle.history.specs.AlarmRecordLaws.{alarm_payload, payload_as, changed_payload}
 use Rattle.answers.specs.AnswerLaws.{alarm_as, answers_put}
 use Rattle.changes.specs.Meaning.{updated_with, news_in, updated_with_lem}
-use Rattle.reply.specs.declared.Reply.{Reply}
+use Rattle.reply.specs.Meaning.{Reply}
 use Rattle.reply.specs.Meaning.{Replies}
 use Rattle.reply.specs.ReplyLaws.{replies_at}
 use Rattle.raising.specs.Meaning.{updates_at, raises_new}

@@ -22,7 +22,7 @@ ghost use Rattle.reply.specs.Meaning.{Replies};
 ghost use Rattle.raising.specs.Meaning.{Ready, updates_at, raises_new};
 
 use changes::News;
-use model::{Record, Span};
+use model::{Record, Refusal, Span};
 use raise_fields::Raise;
 use register::{ACTIVE, Ends, Found};
 use reply::Reply;
@@ -94,12 +94,12 @@ fn insert(
         answer.new }
 {
     if is_active(register, call, r.head.id) {
-        return Reply::Refused(31);
+        return Err(Refusal::IdActive);
     }
     let mut p = [0u8; Record::PAYLOAD];
     build::alarm_into(&mut p, key, call, r);
     history::store(register, ends, &p);
-    Reply::Answered(answers::put_alarm(answer, 1, &p))
+    Ok(answers::put_alarm(answer, 1, &p))
 }
 
 // No active alarm has the key.
@@ -122,7 +122,7 @@ fn raise_new(
 {
     let limit = register::limit(register, ACTIVE);
     if limit <= register::held(register, ACTIVE) {
-        return Reply::Answered(answers::put_limit(answer, key, limit as u64));
+        return Ok(answers::put_limit(answer, key, limit as u64));
     }
     insert(register, ends, call, r, key, answer)
 }
@@ -152,7 +152,7 @@ pub fn raise_at(
         answer.new }
 {
     match found {
-        Found::At(i, _) => Reply::Answered(update(register, i, ends, call, r, answer)),
+        Found::At(i, _) => Ok(update(register, i, ends, call, r, answer)),
         Found::Nowhere => raise_new(register, ends, call, r, key, answer),
     }
 }

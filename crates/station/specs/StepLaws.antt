@@ -9,8 +9,8 @@ use Rattle.definition.specs.Perform.{perform}
 use Rattle.definition.specs.Sound.{sound}
 use Rattle.definition.specs.Lists.{step_of}
 use Rattle.definition.specs.Claim.{StepReturns}
-use Rattle.reply.specs.declared.Reply.{Reply}
-use Rattle.reply.specs.Meaning.{Replies, number_in, length_in}
+use Rattle.reply.specs.Meaning.{Reply}
+use Rattle.reply.specs.Meaning.{Replies, length_in}
 use Rattle.reply.specs.ReplyLaws.{replies_give}
 
 -- a sound register

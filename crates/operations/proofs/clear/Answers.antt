@@ -1,6 +1,6 @@
 -- `clear`: the step, given what the search for the key found.
 use borrow.Author.Rules.{rules}
-use Rattle.reply.specs.declared.Reply.TheVariants.{Answered}
+use Rattle.std.specs.Prelude.{Ok}
 use Rattle.operations.specs.SearchLaws.{clear_sought}
 use Rattle.operations.proofs.clear.Goals as goal
 
@@ -13,4 +13,4 @@ clear_at-requires c =
 
 pub returns : goal.returns
 returns c =
-    clear_sought (Answered c.clear_at.result) _ _ _ _ _ _ c.key_of-key.ensures c.clear_at.ensures
+    clear_sought (Ok c.clear_at.result) _ _ _ _ _ _ c.key_of-key.ensures c.clear_at.ensures

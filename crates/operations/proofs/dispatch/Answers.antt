@@ -11,8 +11,8 @@ use Rattle.action_fields.specs.Meaning.{plain_value, policy_value}
 use Rattle.call.specs.declared.Parsed.{Parsed}
 use Rattle.call.specs.Meaning.{meaning}
 use Rattle.history.specs.StandingLaws.{standing_newest}
-use Rattle.reply.specs.declared.Reply.{Reply}
-use Rattle.reply.specs.declared.Reply.TheVariants.{Answered, Refused}
+use Rattle.reply.specs.Meaning.{Reply}
+use Rattle.std.specs.Prelude.{Ok, Err}
 use Rattle.reply.specs.Meaning.{Replies}
 use Rattle.operations.specs.Meaning.{Called, HasRoom, with_room}
 use Rattle.register.specs.declared.Ends.{Ends}
@@ -78,19 +78,19 @@ returns-in-Raise c =
 
 pub returns-in-Clear : goal.returns-in-Clear
 returns-in-Clear c =
-    arm c.args.call.now c.args.register.now c.args.answer.now c.in-Clear.is (Answered c.clear.result) _ _ c.clear.ensures
+    arm c.args.call.now c.args.register.now c.args.answer.now c.in-Clear.is (Ok c.clear.result) _ _ c.clear.ensures
 
 pub returns-in-Plain : goal.returns-in-Plain
 returns-in-Plain c =
-    arm c.args.call.now c.args.register.now c.args.answer.now c.in-Plain.is (Answered c.plain.result) _ _ (plain_steps _ (Answered c.plain.result) _ _ _ _ (action_of c.in-Plain.action) (plain_value c.args.call.now c.in-Plain.p) c.plain.ensures)
+    arm c.args.call.now c.args.register.now c.args.answer.now c.in-Plain.is (Ok c.plain.result) _ _ (plain_steps _ (Ok c.plain.result) _ _ _ _ (action_of c.in-Plain.action) (plain_value c.args.call.now c.in-Plain.p) c.plain.ensures)
 
 pub returns-in-Policy : goal.returns-in-Policy
 returns-in-Policy c =
-    arm c.args.call.now c.args.register.now c.args.answer.now c.in-Policy.is (Answered c.apply_admin_action.result) _ _ (policy_steps _ (Answered c.apply_admin_action.result) _ _ _ _ (deed_of c.in-Policy.deed) (policy_value c.args.call.now c.in-Policy.p) c.apply_admin_action.ensures)
+    arm c.args.call.now c.args.register.now c.args.answer.now c.in-Policy.is (Ok c.apply_admin_action.result) _ _ (policy_steps _ (Ok c.apply_admin_action.result) _ _ _ _ (deed_of c.in-Policy.deed) (policy_value c.args.call.now c.in-Policy.p) c.apply_admin_action.ensures)
 
 pub returns-in-Expire : goal.returns-in-Expire
 returns-in-Expire c =
-    arm c.args.call.now c.args.register.now c.args.answer.now c.in-Expire.is (Answered c.expire.result) _ _ c.expire.ensures
+    arm c.args.call.now c.args.register.now c.args.answer.now c.in-Expire.is (Ok c.expire.result) _ _ c.expire.ensures
 
 pub returns-in-Active : goal.returns-in-Active
 returns-in-Active c =
@@ -106,7 +106,7 @@ returns-in-Counts c =
 
 pub returns-in-Summary : goal.returns-in-Summary
 returns-in-Summary c =
-    arm c.args.call.now c.args.register.now c.args.answer.now c.in-Summary.is (Answered c.summary.result) _ _ c.summary.ensures
+    arm c.args.call.now c.args.register.now c.args.answer.now c.in-Summary.is (Ok c.summary.result) _ _ c.summary.ensures
 
 pub returns-in-TakeAudit : goal.returns-in-TakeAudit
 returns-in-TakeAudit c =
@@ -114,8 +114,8 @@ returns-in-TakeAudit c =
 
 pub returns-in-Lift : goal.returns-in-Lift
 returns-in-Lift c =
-    arm c.args.call.now c.args.register.now c.args.answer.now c.in-Lift.is (Answered c.lift.result) _ _ c.lift.ensures
+    arm c.args.call.now c.args.register.now c.args.answer.now c.in-Lift.is (Ok c.lift.result) _ _ c.lift.ensures
 
 pub returns-in-Refused : goal.returns-in-Refused
 returns-in-Refused c =
-    arm c.args.call.now c.args.register.now c.args.answer.now c.in-Refused.is (Refused _) _ _ (stays_refused _ _ _ _)
+    arm c.args.call.now c.args.register.now c.args.answer.now c.in-Refused.is (Err _) _ _ (stays_refused _ _ _ _)
