@@ -234,12 +234,9 @@ pub fn put_hex(answer: &mut [u8], at: usize, key: &[u8])
     requires { at + 2 * length key.now ≤ length answer.old }
     ensures { answer.new ≡ splice answer.old at (hex key.now) }
 {
-    let mut i = 0;
-    while i < key.len() {
-        let b = key[i];
+    for (i, &b) in key.iter().enumerate() {
         let p = at + 2 * i;
         answer[p] = hex_digit(b / 16);
         answer[p + 1] = hex_digit(b % 16);
-        i += 1;
     }
 }

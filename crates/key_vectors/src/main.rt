@@ -17,10 +17,8 @@ use std::io::Write;
 // The letters a to z, over and over.
 fn letters() -> [u8; 256] {
     let mut s = [0u8; 256];
-    let mut i = 0;
-    while i < 256 {
-        s[i] = (97 + i % 26) as u8;
-        i += 1;
+    for (i, letter) in s.iter_mut().enumerate() {
+        *letter = (97 + i % 26) as u8;
     }
     s
 }
@@ -157,10 +155,8 @@ fn causes<W: Write>(writer: &mut W, call: &[u8]) -> io::Result<()>
     };
     let tenant = Span { at: 3, len: 4 };
     let object = AffectedObject::Tenant { tenant };
-    let mut k = 0;
-    while k < 21 {
+    for k in 0..21 {
         show(writer, call, 1, CauseSpan::Name(k), object, places)?;
-        k += 1;
     }
     Ok(())
 }

@@ -6,13 +6,8 @@
 // answered. `rt ci` runs the program and compares what it writes with `stdout`.
 #![tactic(auto)]
 
-ghost use Rattle.std.specs.Prelude.{◌≤◌, length, IfOk};
-
 use std::io;
 use std::io::{Read, Write};
-
-// In the place of a register's length: there is no further order.
-const END: usize = usize::MAX;
 
 fn say<W: Write>(writer: &mut W, text: &[u8]) -> io::Result<()> {
     writer.write_all(text)
@@ -32,7 +27,7 @@ fn show<W: Write>(writer: &mut W, number: u32, answer: &[u8], length: u64) -> io
     if answer.len() < n {
         return say(writer, b"outside\n");
     }
-    show_digest(writer, &answer[0..n])?;
+    show_digest(writer, &answer[..n])?;
     say(writer, b"\n")
 }
 
@@ -45,33 +40,22 @@ fn open_by<W: Write>(writer: &mut W, register: &mut [u8], limits: &[u8; 17]) -> 
     show(writer, number, b"", length)
 }
 
-// Reads until buf is full or the input ends, and says how many bytes came to its front.
-fn read_full<R: Read>(reader: &mut R, buf: &mut [u8]) -> io::Result<usize>
-    ensures { IfOk result (λ n. n ≤ length buf.new) }
-{
-    let mut done = 0;
-    while done < buf.len() {
-        let n = reader.read(&mut buf[done..])?;
-        if n == 0 {
-            break;
-        }
-        done += n;
-    }
-    Ok(done)
-}
-
-// An opening: A, H, E and the register's length, and a byte that is not used. Gives the register's length.
-fn open<R: Read, W: Write>(reader: &mut R, writer: &mut W, work: &mut [u8]) -> io::Result<usize> {
+// An opening: A, H, E and the register's length, and a byte that is not used. Gives the register's length, if there was an opening that fits.
+fn open<R: Read, W: Write>(
+    reader: &mut R,
+    writer: &mut W,
+    work: &mut [u8],
+) -> io::Result<Option<usize>> {
     let mut fields = [0u8; 17];
-    if read_full(reader, &mut fields)? < 17 {
-        return Ok(END);
+    if reading::read_full(reader, &mut fields)? < 17 {
+        return Ok(None);
     }
     let size = octets::get32(&fields, 12) as usize;
     if work.len() < size {
-        return Ok(END);
+        return Ok(None);
     }
-    open_by(writer, &mut work[0..size], &fields)?;
-    Ok(size)
+    open_by(writer, &mut work[..size], &fields)?;
+    Ok(Some(size))
 }
 
 fn step_by<W: Write>(
@@ -85,44 +69,27 @@ fn step_by<W: Write>(
     show(writer, number, answer, length)
 }
 
-// A call of n bytes is read and stepped, with so much room for its answer. Says whether there was one that fits.
-fn step_read<R: Read, W: Write>(
-    reader: &mut R,
-    writer: &mut W,
-    register: &mut [u8],
-    call: &mut [u8],
-    n: usize,
-    answer: &mut [u8],
-    room: usize,
-) -> io::Result<bool> {
-    if call.len() < n {
-        return Ok(false);
-    }
-    if answer.len() < room {
-        return Ok(false);
-    }
-    if read_full(reader, &mut call[0..n])? < n {
-        return Ok(false);
-    }
-    step_by(writer, register, &call[0..n], &mut answer[0..room])?;
-    Ok(true)
-}
-
-// A step: the answer's length, a byte that is not used, the call's length, and the call.
+// A step: the answer's length, a byte that is not used, and the call behind its length. Says whether there was one that fits.
 fn step<R: Read, W: Write>(
     reader: &mut R,
     writer: &mut W,
     register: &mut [u8],
 ) -> io::Result<bool> {
-    let mut fields = [0u8; 9];
-    if read_full(reader, &mut fields)? < 9 {
+    let mut fields = [0u8; 5];
+    if reading::read_full(reader, &mut fields)? < 5 {
         return Ok(false);
     }
     let room = octets::get32(&fields, 0) as usize;
-    let n = octets::get32(&fields, 5) as usize;
     let mut call = [0u8; 4096];
+    let Some(n) = reading::read_behind_length::<4, R>(reader, &mut call)? else {
+        return Ok(false);
+    };
     let mut answer = [0u8; 19968];
-    step_read(reader, writer, register, &mut call, n, &mut answer, room)
+    if answer.len() < room {
+        return Ok(false);
+    }
+    step_by(writer, register, &call[..n], &mut answer[..room])?;
+    Ok(true)
 }
 
 fn step_first<R: Read, W: Write>(
@@ -130,31 +97,29 @@ fn step_first<R: Read, W: Write>(
     writer: &mut W,
     work: &mut [u8],
     size: usize,
-) -> io::Result<usize> {
+) -> io::Result<Option<usize>> {
     if work.len() < size {
-        return Ok(END);
+        return Ok(None);
     }
-    if step(reader, writer, &mut work[0..size])? {
-        return Ok(size);
-    }
-    Ok(END)
+    let stepped = step(reader, writer, &mut work[..size])?;
+    Ok(stepped.then_some(size))
 }
 
-// The next order on the register that is the work's first bytes. Gives the register's length after it.
+// The next order on the register that is the work's first bytes. Gives the register's length after it, if there was an order.
 fn next<R: Read, W: Write>(
     reader: &mut R,
     writer: &mut W,
     work: &mut [u8],
     size: usize,
-) -> io::Result<usize> {
+) -> io::Result<Option<usize>> {
     let mut letter = [0u8; 1];
-    if read_full(reader, &mut letter)? < 1 {
-        return Ok(END);
+    if reading::read_full(reader, &mut letter)? < 1 {
+        return Ok(None);
     }
     match letter[0] {
         b'o' => open(reader, writer, work),
         b's' => step_first(reader, writer, work, size),
-        _ => Ok(END),
+        _ => Ok(None),
     }
 }
 
@@ -166,9 +131,9 @@ fn main(rt: HostRuntime) -> io::Result<()> {
     let mut work = [0u8; 19968];
     let mut size = 0;
     for _ in 0..u64::MAX {
-        size = next(&mut reader, &mut writer, &mut work, size)?;
-        if size == END {
-            break;
+        match next(&mut reader, &mut writer, &mut work, size)? {
+            Some(left) => size = left,
+            None => break,
         }
     }
     Ok(())

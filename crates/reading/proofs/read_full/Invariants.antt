@@ -1,6 +1,6 @@
 -- `read_full` is safe: what was read lies within the buffer.
 use Rattle.std.proofs.Common.{◌≤◌, ◌-◌, length}
-use Rattle.lists_replay.proofs.read_full.Given as goal
+use Rattle.reading.proofs.read_full.Given as goal
 
 abbrev pub invariant-loop-done : goal.invariant-loop-done
 invariant-loop-done g l = l.done ≤ length l.buf
