@@ -1,13 +1,15 @@
--- Numbers byte by byte: the steps of the loops that read and write them. Assumes nothing.
-use mathlib.Core.Path.{◌≡◌, refl, sym, ap₂, ◌∙◌}
-use mathlib.Core.List.{[], ◌∷◌, ◌++◌, append_assoc, append-nil}
-use Prim.Native.Nat.{ℕ, zero, suc, ◌+◌, ◌*◌, ◌-◌, ◌/◌, ◌%◌, ◌^◌, ◌≤◌, ◌<◌}
-use native.Mathlib.Nat.{pow-suc, pow-le-pow_right, lt_of_lt_of_le}
+-- Numbers byte by byte: the steps of the loop that reads them, and the bytes that std gives of them. Assumes nothing.
+use mathlib.Core.Path.{◌≡◌, refl, sym, ap, ap₂, ◌∙◌}
+use mathlib.Core.List.{[], ◌∷◌, ◌++◌}
+use Prim.Native.Nat.{ℕ, zero, suc, ◌+◌, ◌*◌, ◌/◌, ◌%◌, ◌^◌, ◌≤◌, ◌<◌}
+use native.Mathlib.Nat.{pow-suc, pow-le-pow_right, lt_of_lt_of_le, div-div-eq-div-mul, mul_comm}
 use native.Mathlib.Numerals.{add-one}
 use native.Mathlib.Omega.{arith}
-use lib.ListN.{length, drop, get_or, set, length-set, drop_of_length-le}
-use lib.Seq.{drop-cons, drop-length, drop-set-lt, get_or-set_same}
-use Rattle.octets.specs.Bytes.{Bytes, digits, value_from}
+use lib.ListN.{length, take, drop, get_or, drop_of_length-le}
+use lib.Seq.{drop-cons}
+use Rattle.std.specs.Int.{byte_at, bytes_high_first}
+use Rattle.octets.specs.Bytes.{Bytes, digits, value_from, value, number_at}
+use Rattle.octets.specs.NumberLaws.{value_digits}
 
 -- ---- read, from the first byte
 
@@ -27,22 +29,21 @@ grows i v b h k = rw (add-one, pow-suc 256 i) (omega arith)
 pub room : (i v : ℕ) → i < 8 → v < 256 ^ i → v < 256 ^ 7
 room i v h k = let l : i ≤ 7 = omega arith in let z : 0 < 256 = omega arith in lt_of_lt_of_le k (pow-le-pow_right z l)
 
--- ---- written, from the last byte
+-- ---- the bytes that `to_be_bytes` gives
 
-pub digit_start : (d : Bytes) (v : ℕ) → digits (length d) v ++ drop (length d) d ≡ digits (length d) v
-digit_start d v = rw (drop-length d) (append-nil (digits (length d) v))
+byte_above : (k v : ℕ) → byte_at k (v / 256) ≡ byte_at (suc k) v
+byte_above zero v = refl
+byte_above (suc k) v = rw (div-div-eq-div-mul v 256 (256 ^ suc k), mul_comm 256 (256 ^ suc k), ← pow-suc 256 (suc k))
 
-pub digit_step : (d : Bytes) (i w : ℕ) → 0 < i → i ≤ length d → digits (i - 1) (w / 256) ++ drop (i - 1) (set d (i - 1) (w % 256)) ≡ digits i w ++ drop i d
+pub high_first : (n v : ℕ) → bytes_high_first n v ≡ digits n v
 unfolding digits
-digit_step d zero w h l = absurd (omega arith)
-digit_step d (suc j) w h l =
-    let e : suc j - 1 ≡ j = omega arith in
-    let f : drop j (set d j (w % 256)) ≡ w % 256 ∷ drop (suc j) d =
-    drop-cons (set d j (w % 256)) j 0 (rw length-set (omega arith))
-    ∙ ap₂ ◌∷◌ (get_or-set_same d j (w % 256) 0 (omega arith)) (drop-set-lt (suc j) d j (w % 256) (omega arith)) in
-    rw (e, f) (sym (append_assoc (digits j (w / 256)) (w % 256 ∷ []) (drop (suc j) d)))
+high_first zero v = refl
+high_first (suc n) v = front n v ∙ ap (λ (s : Bytes). s ++ (v % 256 ∷ [])) (high_first n (v / 256))
+  where
+    front : (n v : ℕ) → bytes_high_first (suc n) v ≡ bytes_high_first n (v / 256) ++ (v % 256 ∷ [])
+    front zero v = refl
+    front (suc n) v = ap₂ ◌∷◌ (sym (byte_above n v)) (front n v)
 
-pub digit_end : (d : Bytes) (i w : ℕ) → i ≡ 0 → digits i w ++ drop i d ≡ d
-unfolding digits
-digit_end d zero w h = refl
-digit_end d (suc i) w h = absurd (omega arith)
+-- a number whose bytes stand at a place is what is read there
+pub read_back : (n : ℕ) (s : Bytes) (at v : ℕ) → v < 256 ^ n → bytes_high_first n v ≡ take n (drop at s) → v ≡ number_at n s at
+read_back n s at v h e = sym (value_digits n v h) ∙ ap value (sym (high_first n v) ∙ e)

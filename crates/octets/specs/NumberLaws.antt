@@ -18,10 +18,6 @@ pub zeros_none : zeros 0 ≡ []
 unfolding zeros
 zeros_none = refl
 
-pub zeros_snoc : (n : ℕ) → zeros (n + 1) ≡ zeros n ++ (0 ∷ [])
-unfolding zeros
-zeros_snoc n = sym (replicate-append-replicate n 1 0)
-
 pub zeros_append : (m n : ℕ) → zeros m ++ zeros n ≡ zeros (m + n)
 unfolding zeros
 zeros_append m n = replicate-append-replicate {A = ℕ} m n 0

@@ -1,8 +1,8 @@
--- Laws of `same` and `begins`: what they say, and what a loop over the index uses.
-use Rattle.std.specs.Prelude.{◌≡◌, refl, true, false, ◌&&◌, [], ◌∷◌, ◌++◌, ℕ, ◌+◌, ◌≤◌, ◌<◌, T, eqb, length, get_or, drop}
-use Rattle.std.proofs.Common.{sym, ap, add-one, arith, eqb→eq, drop_of_length-le}
-use borrow.Author.Tests.{eq-eqb, ne_eqb}
-use Rattle.std.proofs.Math.Seq.{drop-cons}
+-- Laws of `same` and `begins`: what they say, and that std's `==` and `starts_with` of slices say the same.
+use Rattle.std.specs.Prelude.{◌≡◌, refl, true, false, ◌&&◌, [], ◌∷◌, ◌++◌, ℕ, ◌≤◌, ◌<◌, T, eqb, length, take, drop}
+use Rattle.std.proofs.Common.{sym, ap, arith, eqb→eq, drop_of_length-le}
+use Rattle.std.specs.Cmp.Lexicographic.{pointwise}
+use borrow.Author.Tests.{eq-eqb}
 use Rattle.octets.specs.Bytes.{Bytes, same, begins}
 use Rattle.octets.specs.BoolLaws.{and_false, and_assoc, both_left, both_right, fails}
 
@@ -47,29 +47,21 @@ begins_short [] s h = absurd (omega arith)
 begins_short (a ∷ p) [] h = refl
 begins_short (a ∷ p) (b ∷ s) h = rw (begins_short p s (omega arith)) (and_false (eqb a b))
 
--- ---- from place to place
-
-module _ (s t : Bytes) (i : ℕ) (h : i < length s) (k : i < length t) where
-  pub same_step : get_or s i 0 ≡ get_or t i 0 → same (drop i s) (drop i t) ≡ same (drop (i + 1) s) (drop (i + 1) t)
-  unfolding same
-  same_step e = rw (add-one, drop-cons s i 0 h, drop-cons t i 0 k, eq-eqb _ _ e)
-
-  pub same_not : (get_or s i 0 ≡ get_or t i 0 → ⊥) → same (drop i s) (drop i t) ≡ false
-  unfolding same
-  same_not e = rw (drop-cons s i 0 h, drop-cons t i 0 k, ne_eqb _ _ e)
-
-  pub begins_step : get_or s i 0 ≡ get_or t i 0 → begins (drop i s) (drop i t) ≡ begins (drop (i + 1) s) (drop (i + 1) t)
-  unfolding begins
-  begins_step e = rw (add-one, drop-cons s i 0 h, drop-cons t i 0 k, eq-eqb _ _ e)
-
-  pub begins_not : (get_or s i 0 ≡ get_or t i 0 → ⊥) → begins (drop i s) (drop i t) ≡ false
-  unfolding begins
-  begins_not e = rw (drop-cons s i 0 h, drop-cons t i 0 k, ne_eqb _ _ e)
-
 pub same_end : (s t : Bytes) (i : ℕ) → length s ≤ i → length t ≤ i → same (drop i s) (drop i t) ≡ true
 unfolding same
 same_end s t i h k = rw (drop_of_length-le s h, drop_of_length-le t k)
 
-pub begins_end : (s t : Bytes) (i : ℕ) → length s ≤ i → begins (drop i s) t ≡ true
+-- ---- by std's words
+
+pub same_by_byte : (s t : Bytes) → pointwise eqb s t ≡ same s t
+unfolding same
+same_by_byte [] [] = refl
+same_by_byte [] (b ∷ t) = refl
+same_by_byte (a ∷ s) [] = refl
+same_by_byte (a ∷ s) (b ∷ t) = ap (◌&&◌ (eqb a b)) (same_by_byte s t)
+
+pub begins_by_byte : (p s : Bytes) → pointwise eqb p (take (length p) s) ≡ begins p s
 unfolding begins
-begins_end s t i h = rw (drop_of_length-le s h)
+begins_by_byte [] s = refl
+begins_by_byte (a ∷ p) [] = refl
+begins_by_byte (a ∷ p) (b ∷ s) = ap (◌&&◌ (eqb a b)) (begins_by_byte p s)

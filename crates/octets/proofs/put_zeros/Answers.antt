@@ -5,5 +5,5 @@ use Rattle.octets.specs.SpliceLaws.{back_made}
 use Rattle.octets.proofs.put_zeros.Goals as goal
 
 pub returns : goal.returns
-returns c =
-    back_made c.args.s.now c.args.at c.args.n _ zeros length_zeros c.requires c.clear.ensures
+unfolding zeros
+returns c = back_made c.args.s.now c.args.at c.args.n _ zeros length_zeros c.requires (c.fill.ensures.after (λ y e. e))
