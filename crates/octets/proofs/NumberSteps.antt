@@ -1,4 +1,4 @@
--- Numbers byte by byte: the steps of the loop that reads them, and the bytes that std gives of them. Assumes nothing.
+-- Numbers byte by byte: the steps of the loop that reads them, and what std reads. Assumes nothing.
 use mathlib.Core.Path.{◌≡◌, refl, sym, ap, ap₂, ◌∙◌}
 use mathlib.Core.List.{[], ◌∷◌, ◌++◌}
 use Prim.Native.Nat.{ℕ, zero, suc, ◌+◌, ◌*◌, ◌/◌, ◌%◌, ◌^◌, ◌≤◌, ◌<◌}
@@ -9,7 +9,7 @@ use lib.ListN.{length, take, drop, get_or, drop_of_length-le}
 use lib.Seq.{drop-cons}
 use Rattle.std.specs.Int.{byte_at, bytes_high_first}
 use Rattle.octets.specs.Bytes.{Bytes, digits, value_from, value, number_at}
-use Rattle.octets.specs.NumberLaws.{value_digits}
+use Rattle.octets.specs.NumberLaws.{value_digits, high_first}
 
 -- ---- read, from the first byte
 
@@ -29,20 +29,7 @@ grows i v b h k = rw (add-one, pow-suc 256 i) (omega arith)
 pub room : (i v : ℕ) → i < 8 → v < 256 ^ i → v < 256 ^ 7
 room i v h k = let l : i ≤ 7 = omega arith in let z : 0 < 256 = omega arith in lt_of_lt_of_le k (pow-le-pow_right z l)
 
--- ---- the bytes that `to_be_bytes` gives
-
-byte_above : (k v : ℕ) → byte_at k (v / 256) ≡ byte_at (suc k) v
-byte_above zero v = refl
-byte_above (suc k) v = rw (div-div-eq-div-mul v 256 (256 ^ suc k), mul_comm 256 (256 ^ suc k), ← pow-suc 256 (suc k))
-
-pub high_first : (n v : ℕ) → bytes_high_first n v ≡ digits n v
-unfolding digits
-high_first zero v = refl
-high_first (suc n) v = front n v ∙ ap (λ (s : Bytes). s ++ (v % 256 ∷ [])) (high_first n (v / 256))
-  where
-    front : (n v : ℕ) → bytes_high_first (suc n) v ≡ bytes_high_first n (v / 256) ++ (v % 256 ∷ [])
-    front zero v = refl
-    front (suc n) v = ap₂ ◌∷◌ (sym (byte_above n v)) (front n v)
+-- ---- read, as std does
 
 -- a number whose bytes stand at a place is what is read there
 pub read_back : (n : ℕ) (s : Bytes) (at v : ℕ) → v < 256 ^ n → bytes_high_first n v ≡ take n (drop at s) → v ≡ number_at n s at

@@ -1,10 +1,12 @@
 -- Laws of zeros, of padding, and of numbers in bytes; each law of numbers is over their width.
 use Rattle.std.specs.Prelude.{◌≡◌, refl, [], ◌∷◌, ◌++◌, ℕ, zero, suc, ◌+◌, ◌*◌, ◌/◌, ◌%◌, ◌-◌, ◌^◌, ◌≤◌, ◌<◌, length, take, drop, get_or}
-use Rattle.std.proofs.Common.{sym, ap, ◌∙◌, subst, append_assoc, append-nil, add-zero, zero-add, lt_of_lt_of_le, mul-le-mul_right, div-add-mod', div-lt_iff_lt-mul, pow-suc, mul_comm, mul_assoc, arith, length-append, length-take, take_at, get_or-take, get_or-drop}
+use Rattle.std.proofs.Common.{sym, ap, ap₂, ◌∙◌, subst, append_assoc, append-nil, add-zero, zero-add, lt_of_lt_of_le, mul-le-mul_right, div-add-mod', div-lt_iff_lt-mul, pow-suc, mul_comm, mul_assoc, arith, length-append, length-take, take_at, get_or-take, get_or-drop}
 use Rattle.std.proofs.Math.Decide.{dec_lt}
 use Rattle.std.proofs.lemmas.List.{length-replicate, get_or-replicate, replicate-append-replicate}
 use Rattle.std.proofs.Math.ListN.{get_or-eq_default}
 use Rattle.std.proofs.Math.Seq.{take-append-add, drop-append-add}
+use Rattle.std.proofs.Math.Nat.{div-div-eq-div-mul}
+use Rattle.std.specs.Int.{byte_at, bytes_high_first}
 use Rattle.octets.specs.Bytes.{Bytes, Octets, zeros, pad, digits, be32, value_from, value, number_at, at32}
 use Rattle.octets.specs.PartLaws.{part_length}
 
@@ -144,3 +146,18 @@ at32_append a b k = number_append 4 a b k
 
 pub be32_at32 : (b : Bytes) (k : ℕ) → Octets b → k + 4 ≤ length b → be32 (at32 b k) ≡ take 4 (drop k b)
 be32_at32 b k h l = digits_number 4 b k h l
+
+-- ---- the bytes that `to_be_bytes` gives
+
+byte_above : (k v : ℕ) → byte_at k (v / 256) ≡ byte_at (suc k) v
+byte_above zero v = refl
+byte_above (suc k) v = rw (div-div-eq-div-mul v 256 (256 ^ suc k), mul_comm 256 (256 ^ suc k), ← pow-suc 256 (suc k))
+
+pub high_first : (n v : ℕ) → bytes_high_first n v ≡ digits n v
+unfolding digits
+high_first zero v = refl
+high_first (suc n) v = front n v ∙ ap (λ (s : Bytes). s ++ (v % 256 ∷ [])) (high_first n (v / 256))
+  where
+    front : (n v : ℕ) → bytes_high_first (suc n) v ≡ bytes_high_first n (v / 256) ++ (v % 256 ∷ [])
+    front zero v = refl
+    front (suc n) v = ap₂ ◌∷◌ (sym (byte_above n v)) (front n v)

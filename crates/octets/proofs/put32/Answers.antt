@@ -1,7 +1,7 @@
 -- `put32`: std's bytes of v are its digits.
 use Rattle.std.proofs.Common.{◌∙◌, ap}
 use Rattle.octets.specs.Bytes.{splice}
-use Rattle.octets.proofs.NumberSteps.{high_first}
+use Rattle.octets.specs.NumberLaws.{high_first}
 use Rattle.octets.proofs.put32.Goals as goal
 
 pub returns : goal.returns

@@ -1,11 +1,8 @@
--- `sha256::blocks` meets its contract. The loop's invariant: s is the hash value after i blocks.
-use Rattle.std.proofs.Common.{◌≡◌, ◌-◌, ◌≤◌}
+-- `blocks`: the state is the hash value after i blocks.
+use Rattle.std.proofs.Common.{◌≡◌}
 use Rattle.fips180.specs.Sha256.{padded, blocks_of}
 use Rattle.sha256.specs.HashOf.{hash_of}
 use Rattle.sha256.proofs.blocks.Given as goal
 
 abbrev pub invariant-loop-i : goal.invariant-loop-i
-invariant-loop-i l = (l.i ≤ l.n) × (hash_of l.s ≡ blocks_of (padded l.message) l.i)
-
-abbrev pub decreases-loop-i : goal.decreases-loop-i
-decreases-loop-i l = l.n - l.i
+invariant-loop-i l = hash_of l.state ≡ blocks_of (padded l.message) l.i

@@ -1,4 +1,4 @@
--- `sha256::padded_word` meets its contract. The four bytes are those of the word.
+-- `padded_word`: the four bytes are those of the word.
 use Rattle.std.proofs.Common.{arith}
 use Rattle.octets.specs.Bytes.{Bytes}
 use Rattle.fips180.specs.Sha256.{padded}
