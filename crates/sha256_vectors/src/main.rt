@@ -8,38 +8,22 @@
 use std::io;
 use std::io::Write;
 
-fn wide(x: u8) -> u64 {
-    x as u64
-}
-
 fn show<W: Write>(writer: &mut W, message: &[u8]) -> io::Result<()> {
-    let d = sha256::sha256(message);
-    let mut i = 0;
-    while i < 32 {
-        let byte = wide(d[i]);
+    for byte in sha256::sha256(message) {
         write!(writer, "{byte:02x}")?;
-        i += 1;
     }
     writer.write_all(b"\n")
 }
 
 // Bytes of which byte i is 7 i + 3, modulo 256.
 fn pattern() -> [u8; 300] {
-    let mut m = [0u8; 300];
-    let mut i = 0;
-    while i < 300 {
-        m[i] = ((7 * i + 3) % 256) as u8;
-        i += 1;
-    }
-    m
+    std::array::from_fn(|i| ((7 * i + 3) % 256) as u8)
 }
 
 fn every_length<W: Write>(writer: &mut W) -> io::Result<()> {
     let m = pattern();
-    let mut n = 0;
-    while n <= 300 {
+    for n in 0..=300 {
         show(writer, &m[..n])?;
-        n += 1;
     }
     Ok(())
 }
