@@ -1,16 +1,15 @@
--- What the contracts say: the answer's number of code points, strings of ASCII and of tails, a row behind its first byte, how far a run goes
--- on at once, and how many bytes are no tails.
-use Rattle.std.specs.Prelude.{ℕ, ◌+◌, ◌-◌, [], ◌∷◌, Bool, true, cond, ◌&&◌, ltb, leb, length, take, drop, replicate}
-use Rattle.std.proofs.Math.Option.{Option, none, some}
+-- What the contracts say: the answer's number of code points, strings of ASCII, a row behind its first byte, how far a run goes on at once,
+-- and how many bytes are no tails.
+use Rattle.std.specs.Prelude.{ℕ, zero, suc, ◌-◌, [], ◌∷◌, Bool, true, cond, ◌&&◌, not, ltb, leb, length, take, drop, replicate, count_by}
+use Rattle.std.specs.Prelude.{Option, Some, None}
+use Rattle.std.proofs.Math.Option as maybe
 use Rattle.octets.specs.Bytes.{Bytes}
 use Rattle.definition.specs.Utf8.{Range, Row, inside, tail, fits, character}
-use Rattle.utf8.specs.declared.Form.{Form}
-use Rattle.utf8.specs.declared.Form.TheVariants.{WellFormed, IllFormed}
 
 -- how many code points each answer tells: those of the definition's `code_points`
-abbrev pub counted : Form → Option ℕ
-counted (WellFormed n) = some n
-counted IllFormed = none
+abbrev pub counted : Option ℕ → maybe.Option ℕ
+counted (Some n) = maybe.some n
+counted None = maybe.none
 
 -- all bytes are below 128: ASCII
 unfoldable pub plain : Bytes → Bool
@@ -30,19 +29,19 @@ all_inside r (b ∷ s) = inside r b && all_inside r s
 abbrev pub second_then_tails : ℕ → Range → Row
 second_then_tails n r = r ∷ replicate (n - 2) tail
 
--- n where such bytes stand behind the first of s, else 0
-unfoldable pub row_width : ℕ → Range → Bytes → ℕ
-row_width n r s = cond (fits (second_then_tails n r) (drop 1 s)) n 0
+-- n, if such bytes stand behind the first of s
+unfoldable pub row_width : ℕ → Range → Bytes → Option ℕ
+row_width n r s = cond (fits (second_then_tails n r) (drop 1 s)) (Some n) None
 
--- how many bytes at the front of s are whole characters: eight of ASCII, else those of the first character, 0 where it begins with none
-unfoldable pub ahead : Bytes → ℕ
-ahead s = cond (starts_plain s) 8 (character s)
+-- how many bytes a character takes, of which the definition says 0 for none
+abbrev pub width_of : ℕ → Option ℕ
+width_of zero = None
+width_of (suc n) = Some (suc n)
 
--- 1 for a byte that is no tail
-abbrev pub lead_in : ℕ → ℕ
-lead_in b = cond (inside tail b) 0 1
+-- how many bytes at the front of s are whole characters: eight of ASCII, else those of the first character, if it begins with one
+unfoldable pub ahead : Bytes → Option ℕ
+ahead s = cond (starts_plain s) (Some 8) (width_of (character s))
 
 -- how many bytes of s are no tails
 unfoldable pub leads_in : Bytes → ℕ
-leads_in [] = 0
-leads_in (b ∷ s) = lead_in b + leads_in s
+leads_in s = count_by (λ b. not (inside tail b)) s

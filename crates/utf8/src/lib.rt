@@ -7,87 +7,41 @@
 #![tactic(auto)]
 
 ghost use Rattle.std.specs.Prelude.{◌≡◌, ◌≤◌};
-ghost use Rattle.definition.specs.Utf8.{◌–◌, tail, character as the_character, code_points, is_run, utf8, at_most};
-ghost use Rattle.utf8.specs.Meaning.{plain, starts_plain, all_inside, row_width, ahead as the_ahead, lead_in, leads_in, counted};
+ghost use Rattle.definition.specs.Utf8.{◌–◌, inside, tail, character as the_character, code_points, utf8};
+ghost use Rattle.utf8.specs.Meaning.{plain, starts_plain, width_of, row_width, ahead as the_ahead, leads_in, counted};
 
-// What the check answers: well formed, with the number of code points; or not.
-#[derive(Clone, Copy)]
-pub enum Form {
-    WellFormed(usize),
-    IllFormed,
-}
-
-// Yes or no.
-pub fn is_well_formed(form: Form) -> bool
-    ensures { result ≡ is_run (counted form) }
+// UTF8-tail   = %x80-BF
+fn is_tail(b: u8) -> bool
+    ensures { result ≡ inside tail b }
 {
-    match form {
-        Form::WellFormed(_) => true,
-        Form::IllFormed => false,
-    }
+    matches!(b, 0x80..=0xBF)
 }
 
-// Whether a string of this form is well formed and has at most n code points.
-pub fn has_at_most(form: Form, n: usize) -> bool
-    ensures { result ≡ at_most n (counted form) }
-{
-    match form {
-        Form::WellFormed(k) => k <= n,
-        Form::IllFormed => false,
-    }
-}
-
-// Whether all bytes of s are tails.
-fn are_tails(s: &[u8]) -> bool
-    ensures { result ≡ all_inside tail s.now }
-{
-    let mut i = 0;
-    while i < s.len() {
-        // UTF8-tail   = %x80-BF
-        if s[i] < 0x80 {
-            return false;
-        }
-        if 0xBF < s[i] {
-            return false;
-        }
-        i += 1;
-    }
-    true
-}
-
-// A row of n bytes whose first is there: n where a second from lo to hi follows and then tails, else 0.
-fn row(s: &[u8], n: usize, lo: u8, hi: u8) -> usize
+// A row of n bytes whose first is there: n, where a second from lo to hi follows and then tails.
+fn row(s: &[u8], n: usize, lo: u8, hi: u8) -> Option<usize>
     requires { 2 ≤ n }
     ensures { result ≡ row_width n (lo – hi) s.now }
 {
     if s.len() < n {
-        return 0;
+        return None;
     }
-    let b = s[1];
-    if b < lo {
-        return 0;
+    if !(lo..=hi).contains(&s[1]) {
+        return None;
     }
-    if hi < b {
-        return 0;
-    }
-    if are_tails(&s[2..n]) {
-        return n;
-    }
-    0
+    s[2..n].iter().all(|b| is_tail(*b)).then_some(n)
 }
 
-// How many bytes the character takes that s begins with, 0 where it begins with none:
+// How many bytes the character takes that s begins with, if it begins with one:
 // UTF8-char   = UTF8-1 / UTF8-2 / UTF8-3 / UTF8-4
-fn character(s: &[u8]) -> usize
-    ensures { result ≡ the_character s.now }
+fn character(s: &[u8]) -> Option<usize>
+    ensures { result ≡ width_of (the_character s.now) }
 {
-    if s.len() == 0 {
-        return 0;
-    }
-    let first = s[0];
-    match first {
+    let [first, ..] = s else {
+        return None;
+    };
+    match *first {
         // UTF8-1      = %x00-7F
-        0x00..=0x7F => 1,
+        0x00..=0x7F => Some(1),
         // UTF8-2      = %xC2-DF UTF8-tail
         0xC2..=0xDF => row(s, 2, 0x80, 0xBF),
         // UTF8-3      = %xE0 %xA0-BF UTF8-tail / %xE1-EC 2( UTF8-tail ) /
@@ -102,40 +56,35 @@ fn character(s: &[u8]) -> usize
         0xF1..=0xF3 => row(s, 4, 0x80, 0xBF),
         0xF4 => row(s, 4, 0x80, 0x8F),
         // 80-C1 and F5-FF begin no row
-        _ => 0,
+        _ => None,
     }
 }
 
-// Whether all bytes of s are below 128.
+// Whether all bytes of s are below 128. They are joined by or, and the loop has one way out: LLVM takes many bytes at a time.
 fn is_ascii(s: &[u8]) -> bool
     ensures { result ≡ plain s.now }
 {
-    let mut x: u8 = 0;
-    let mut i = 0;
-    while i < s.len() {
-        x = x | s[i];
-        i += 1;
+    let mut joined = 0;
+    for b in s {
+        joined |= *b;
     }
-    x < 128
+    joined < 128
 }
 
 // Whether s begins with eight bytes of ASCII.
 fn starts_plain(s: &[u8]) -> bool
     ensures { result ≡ starts_plain s.now }
 {
-    if s.len() < 8 {
-        return false;
-    }
-    is_ascii(&s[..8])
+    8 <= s.len() && is_ascii(&s[..8])
 }
 
 // How many bytes at the front of s are whole characters: eight where these are ASCII, else those of the first
-// character; 0 where s begins with none.
-fn ahead(s: &[u8]) -> usize
+// character, if s begins with one.
+fn ahead(s: &[u8]) -> Option<usize>
     ensures { result ≡ the_ahead s.now }
 {
     if starts_plain(s) {
-        return 8;
+        return Some(8);
     }
     character(s)
 }
@@ -144,68 +93,34 @@ fn ahead(s: &[u8]) -> usize
 fn is_run(s: &[u8]) -> bool
     ensures { result ≡ utf8 s.now }
 {
-    let mut i = 0;
-    while i < s.len() {
-        let n = ahead(&s[i..]);
-        if n == 0 {
-            return false;
-        }
-        i += n;
+    let mut rest = s;
+    while let Some(n) = ahead(rest) {
+        rest = &rest[n..];
     }
-    true
-}
-
-// 1 for a byte that is no tail, else 0.
-fn lead(b: u8) -> usize
-    ensures { result ≡ lead_in b }
-{
-    if b < 0x80 {
-        return 1;
-    }
-    if 0xBF < b {
-        return 1;
-    }
-    0
+    rest.is_empty()
 }
 
 // How many bytes of s are no tails: in a run each character has one of them, its first.
 fn leads(s: &[u8]) -> usize
     ensures { result ≡ leads_in s.now }
 {
-    let mut n = 0;
-    let mut i = 0;
-    while i < s.len() {
-        n += lead(s[i]);
-        i += 1;
-    }
-    n
+    s.iter().filter(|b| !is_tail(**b)).count()
 }
 
-// The form of s, told whether it is a run. Code points are counted by a loop of their own, and not in that of `is_run`: LLVM leaves it out
-// where nobody asks for their number.
-fn form_of(s: &[u8], run: bool) -> Form
-    requires { run ≡ utf8 s.now }
+// How many code points s has, if it is well formed, by its characters alone. They are counted by a loop of their own, and
+// not in that of `is_run`: LLVM leaves it out where nobody asks for their number.
+pub fn check_run(s: &[u8]) -> Option<usize>
     ensures { counted result ≡ code_points s.now }
 {
-    if run {
-        return Form::WellFormed(leads(s));
-    }
-    Form::IllFormed
+    is_run(s).then(|| leads(s))
 }
 
-// The form of s, by its characters alone.
-pub fn check_run(s: &[u8]) -> Form
-    ensures { counted result ≡ code_points s.now }
-{
-    form_of(s, is_run(s))
-}
-
-// The form of s, quicker than `check_run` where s may well be ASCII.
-pub fn check(s: &[u8]) -> Form
+// The same, quicker than `check_run` where s may well be ASCII.
+pub fn check(s: &[u8]) -> Option<usize>
     ensures { counted result ≡ code_points s.now }
 {
     if is_ascii(s) {
-        return Form::WellFormed(s.len());
+        return Some(s.len());
     }
-    form_of(s, is_run(s))
+    check_run(s)
 }

@@ -5,9 +5,6 @@ use Rattle.definition.proofs.Laws.Text.Utf8.{rests}
 use Rattle.utf8.proofs.Rows.{row_on, row_none, row_ascii, row_end}
 use Rattle.utf8.proofs.character.Goals as goal
 
-pub returns-then-s-eq0 : goal.returns-then-s-eq0
-returns-then-s-eq0 c = row_end _ (omega arith)
-
 pub returns-in-224 : goal.returns-in-224
 unfolding rests
 returns-in-224 c = c.row.ensures ∙ row_on _ _ 1 0xE0 tt _ (omega arith) (omega arith) (omega arith) (omega arith)
@@ -44,11 +41,14 @@ unfolding rests
 returns-in-241-to-243 c = c.row-in-241-to-243.ensures ∙ row_on _ _ 3 0xF1 tt _ (omega arith) (omega arith) (omega arith) (omega arith)
 
 pub returns-in_default : goal.returns-in_default
-unfolding rests
-returns-in_default c = row_none 66 0x80 tt _ (omega arith) (omega arith) (omega arith)
+returns-in_default c = row_end _ (omega arith)
 
-pub returns-in_default-2 : goal.returns-in_default-2
+pub returns-in_default-first : goal.returns-in_default-first
 unfolding rests
-returns-in_default-2 c =
-    let k = c.shared_slice_known-2-1.given 0 in
+returns-in_default-first c = row_none 66 0x80 tt _ (omega arith) (omega arith) (omega arith)
+
+pub returns-in_default-first-2 : goal.returns-in_default-first-2
+unfolding rests
+returns-in_default-first-2 c =
+    let k = c.type_inv.s 0 in
     row_none 11 0xF5 tt _ (omega arith) (omega arith) (omega (arith, k))

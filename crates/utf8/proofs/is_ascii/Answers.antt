@@ -1,20 +1,13 @@
 -- The bytes passed, joined by or, are below 128 where each of them is.
-use mathlib.Core.Path.{◌∙◌, ap, refl}
-use native.Mathlib.Omega.{arith}
-use borrow.Author.Rules.{rules}
-use lib.Seq.{take_all}
+use mathlib.Core.Path.{refl}
 use Rattle.utf8.specs.Meaning.{plain}
 use Rattle.utf8.proofs.Plain.{plain_step}
 use Rattle.utf8.proofs.is_ascii.Goals as goal
 
-pub loop-i-init : goal.loop-i-init
+pub loop-b-init : goal.loop-b-init
 unfolding plain
-loop-i-init c = (search rules, refl)
+loop-b-init c = refl
 
-pub loop-i-preserved : goal.loop-i-preserved
-loop-i-preserved c =
-    (search rules, plain_step c.args.s.now c.loop-i.i c.loop-i.x (search rules) c.loop-i.invariant.1)
-
-pub returns : goal.returns
-returns c =
-    c.loop-i.invariant.1 ∙ ap plain (take_all c.loop-i.i c.args.s.now (omega arith))
+pub loop-b-preserved : goal.loop-b-preserved
+loop-b-preserved c =
+    plain_step c.args.s.now c.loop-b.b-index c.loop-b.joined c.loop-b-test.true c.loop-b.invariant

@@ -1,30 +1,31 @@
 -- At each place the bytes left are a run where s is one.
-use mathlib.Core.Path.{◌∙◌, refl}
+use mathlib.Core.Path.{◌∙◌, ap}
 use native.Mathlib.Omega.{arith}
-use borrow.Author.Rules.{rules}
-use Rattle.utf8.proofs.Runs.{goes_on, goes_nowhere, goes_end}
+use lib.ListN.{length, length-drop}
+use Rattle.octets.specs.PartLaws.{part_rest}
+use Rattle.definition.specs.Utf8.{utf8}
+use Rattle.utf8.proofs.Runs.{Passes, passes_ahead, stuck_ahead}
 use Rattle.utf8.proofs.is_run.Goals as goal
 
-pub loop-i-init : goal.loop-i-init
-loop-i-init c = (omega arith, refl)
+pub loop-n-preserved : goal.loop-n-preserved
+loop-n-preserved c =
+    let p : Passes c.in-Some.n c.loop-n.rest.now = passes_ahead _ _ c.in-Some.ensures in
+    ap utf8 (part_rest c.loop-n.rest.now c.in-Some.n) ∙ p.goes_on ∙ c.loop-n.invariant
 
-pub returns-then-n-eq0 : goal.returns-then-n-eq0
-returns-then-n-eq0 c =
-    goes_nowhere _ c.loop-i.i _ (search rules) c.ahead-n.ensures c.if-n-eq0.true ∙ c.loop-i.invariant.1
+pub loop-n-smaller : goal.loop-n-smaller
+loop-n-smaller c =
+    let p : Passes c.in-Some.n c.loop-n.rest.now = passes_ahead _ _ c.in-Some.ensures in
+    omega (arith, p, ap length (part_rest c.loop-n.rest.now c.in-Some.n), length-drop c.in-Some.n c.loop-n.rest.now)
 
-pub overflow_add-i : goal.overflow_add-i
-overflow_add-i c =
-    omega (arith, (goes_on c.args.s.now c.loop-i.i _ c.loop-i.invariant.0 c.ahead-n.ensures c.if-n-eq0.false).0)
+pub slice_bounds-rest-count : goal.slice_bounds-rest-count
+slice_bounds-rest-count c =
+    let p : Passes c.in-Some.n c.loop-n.rest.now = passes_ahead _ _ c.in-Some.ensures in
+    omega (arith, p)
 
-pub loop-i-smaller : goal.loop-i-smaller
-loop-i-smaller c =
-    omega (arith, (goes_on c.args.s.now c.loop-i.i _ c.loop-i.invariant.0 c.ahead-n.ensures c.if-n-eq0.false).0)
-
-pub loop-i-preserved : goal.loop-i-preserved
-loop-i-preserved c =
-    let g = goes_on _ c.loop-i.i _ c.loop-i.invariant.0 c.ahead-n.ensures c.if-n-eq0.false in
-    (g.0, g.1 ∙ c.loop-i.invariant.1)
+pub slice_bounds-rest-start : goal.slice_bounds-rest-start
+slice_bounds-rest-start c =
+    let p : Passes c.in-Some.n c.loop-n.rest.now = passes_ahead _ _ c.in-Some.ensures in
+    omega (arith, p)
 
 pub returns : goal.returns
-returns c =
-    goes_end c.args.s.now c.loop-i.i (omega arith) ∙ c.loop-i.invariant.1
+returns c = c.is_empty.ensures ∙ stuck_ahead _ c.in_default.ensures ∙ c.loop-n.invariant

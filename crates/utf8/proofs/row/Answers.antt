@@ -1,21 +1,25 @@
 -- Too few bytes; a second one outside its range; or what the tails decide.
-use mathlib.Core.Path.{◌∙◌, sym}
-use mathlib.Core.Bool.{true, false}
-use borrow.Author.Rules.{rules}
-use Rattle.utf8.proofs.Rows.{inside_low, inside_high, row_short, row_second, row_tails}
+use Rattle.std.proofs.Common.{rules, ◌∙◌}
+use Rattle.std.proofs.lemmas.Iterator.{YieldsList-from_slice}
+use Rattle.std.proofs.lemmas.Iterator.Search.{all_from_yields_List}
+use Rattle.std.proofs.Common.{◌≡◌, get_or, take, drop, ◌-◌, true, false, arith}
+use Rattle.std.proofs.lemmas.Bool.Decides.{nat_tests}
+use borrow.Author.Tests.{tests}
+use Rattle.definition.specs.Utf8.{inside, tail, ◌–◌}
+use Rattle.utf8.proofs.Rows.{row_short, row_second, row_tails}
 use Rattle.utf8.proofs.row.Goals as goal
 
 pub returns-then-s-n : goal.returns-then-s-n
 returns-then-s-n c = row_short _ _ _ (search rules) (search rules)
 
-pub returns-then-b-lo : goal.returns-then-b-lo
-returns-then-b-lo c = row_second _ _ _ (search rules) (inside_low _ _ c.if-b-lo.true)
-
-pub returns-then-hi-b : goal.returns-then-hi-b
-returns-then-hi-b c = row_second _ _ _ (search rules) (inside_high _ _ c.if-hi-b.true)
-
-pub returns-then-are_tails : goal.returns-then-are_tails
-returns-then-are_tails c = row_tails _ _ _ true (search rules) (search rules) (search rules) (search rules) (sym c.if-are_tails.true ∙ c.are_tails.ensures)
+pub returns-then-not-contains : goal.returns-then-not-contains
+returns-then-not-contains c =
+    let e : inside (c.args.lo – c.args.hi) (get_or c.args.s.now 1 0) ≡ false = grind (arith, nat_tests, c.new.ensures, c.contains.ensures.value, c.if-not-contains.true) in
+    row_second _ _ _ (search rules) e
 
 pub returns : goal.returns
-returns c = row_tails _ _ _ false (search rules) (search rules) (search rules) (search rules) (sym c.if-are_tails.false ∙ c.are_tails.ensures)
+returns c =
+    let e : inside (c.args.lo – c.args.hi) (get_or c.args.s.now 1 0) ≡ true = search rules in
+    c.then_some.ensures
+    ∙ row_tails _ _ _ _ (search rules) (search rules) e
+    (all_from_yields_List {all = take (c.args.n - 2) (drop 2 c.args.s.now)} (inside tail) _ _ _ c.all.ensures.ran (YieldsList-from_slice _ cc) (λ x b q k. search (rules, tests)))
