@@ -3,3 +3,4 @@ pub mod Trim
 pub mod Dotted
 pub mod Ways
 pub mod Xor
+pub mod Spaces

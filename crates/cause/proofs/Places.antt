@@ -14,68 +14,69 @@ use Rattle.octets.specs.BoolLaws.{both_left, both_right, true_holds}
 use Rattle.octets.specs.SameLaws.{same→eq, same_refl}
 use Rattle.definition.specs.Cause.{names, one_of}
 use Rattle.definition.specs.Numbers.{among}
-use Rattle.cause.specs.Meaning.{named, place_of, or_else}
-use Rattle.cause.specs.declared.names.Named.{Named}
-use Rattle.cause.specs.declared.names.Named.TheVariants.{At, Nothing}
+use Rattle.std.specs.Prelude.{Option, Some, None, is_some}
+use Rattle.std.specs.Option.{option_or}
+use Rattle.std.specs.Bool.{then_some}
+use Rattle.cause.specs.Meaning.{named, place_of}
 
 -- ---- the texts of one length
 
 -- the answer r, or else the place of s among those of the texts, numbered from k on, that have the length n
-abbrev sized : ℕ → Bytes → Named → ℕ → List Bytes → Named
+abbrev sized : ℕ → Bytes → Option ℕ → ℕ → List Bytes → Option ℕ
 sized n s r k [] = r
-sized n s r k (t ∷ ts) = sized n s (cond (eqb n (length t)) (or_else r (place_of s t k)) r) (suc k) ts
+sized n s r k (t ∷ ts) = sized n s (cond (eqb n (length t)) (option_or r (place_of s t k)) r) (suc k) ts
 
-cond_same : (b : Bool) (r : Named) → cond b r r ≡ r
+cond_same : (b : Bool) (r : Option ℕ) → cond b r r ≡ r
 cond_same true r = refl
 cond_same false r = refl
 
 -- the lengths tell nothing more
-same_sized : (s t : Bytes) (k : ℕ) (r : Named) → cond (eqb (length s) (length t)) (or_else r (place_of s t k)) r ≡ or_else r (place_of s t k)
-same_sized s t k (At j) = cond_same (eqb (length s) (length t)) (At j)
-same_sized s t k Nothing = go (same t s) refl
+same_sized : (s t : Bytes) (k : ℕ) (r : Option ℕ) → cond (eqb (length s) (length t)) (option_or r (place_of s t k)) r ≡ option_or r (place_of s t k)
+same_sized s t k (Some j) = cond_same (eqb (length s) (length t)) (Some j)
+same_sized s t k None = go (same t s) refl
   where
-    go : (y : Bool) → same t s ≡ y → cond (eqb (length s) (length t)) (cond y (At k) Nothing) Nothing ≡ cond y (At k) Nothing
+    go : (y : Bool) → same t s ≡ y → cond (eqb (length s) (length t)) (then_some y k) None ≡ then_some y k
     go true e = rw (eq-eqb (length s) (length t) (ap length (sym (same→eq t s (true_holds _ e)))))
-    go false e = cond_same (eqb (length s) (length t)) Nothing
+    go false e = cond_same (eqb (length s) (length t)) None
 
 -- what is known where the texts up to those left have been passed
-abbrev Passed : List Bytes → Bytes → List Bytes → Named → Type 0
-Passed all s left (At k) = (k < length all) × (get_or all k [] ≡ s)
-Passed all s left Nothing = one_of all s ≡ one_of left s
+abbrev Passed : List Bytes → Bytes → List Bytes → Option ℕ → Type 0
+Passed all s left (Some k) = (k < length all) × (get_or all k [] ≡ s)
+Passed all s left None = one_of all s ≡ one_of left s
 
 passed : (all : List Bytes) (s t : Bytes) (left : List Bytes) (k : ℕ) → k < length all → get_or all k [] ≡ t
-    → (r : Named) → Passed all s (t ∷ left) r → Passed all s left (or_else r (place_of s t k))
+    → (r : Option ℕ) → Passed all s (t ∷ left) r → Passed all s left (option_or r (place_of s t k))
 unfolding one_of
-passed all s t left k h g (At j) p = p
-passed all s t left k h g Nothing p = go (same t s) refl
+passed all s t left k h g (Some j) p = p
+passed all s t left k h g None p = go (same t s) refl
   where
-    go : (y : Bool) → same t s ≡ y → Passed all s left (cond y (At k) Nothing)
+    go : (y : Bool) → same t s ≡ y → Passed all s left (then_some y k)
     go true e = (h, g ∙ same→eq t s (true_holds _ e))
     go false e = p ∙ rw e
 
 all_passed : (all : List Bytes) (s : Bytes) (k : ℕ) (left : List Bytes) → drop k all ≡ left
-    → (r : Named) → Passed all s left r → Passed all s [] (sized (length s) s r k left)
+    → (r : Option ℕ) → Passed all s left r → Passed all s [] (sized (length s) s r k left)
 all_passed all s k [] e r p = p
 all_passed all s k (t ∷ left) e r p =
     let h : k < length all = omega (arith, ap length e, length-drop k all) in
     let c = drop-cons all k [] h in
     let g : get_or all k [] ≡ t = cc in
     let d : drop (suc k) all ≡ left = cc in
-    all_passed all s (suc k) left d (cond (eqb (length s) (length t)) (or_else r (place_of s t k)) r)
+    all_passed all s (suc k) left d (cond (eqb (length s) (length t)) (option_or r (place_of s t k)) r)
     (rw same_sized (passed all s t left k h g r p))
 
-none_left : (all : List Bytes) (s : Bytes) (r : Named) → Passed all s [] r → named all s r
+none_left : (all : List Bytes) (s : Bytes) (r : Option ℕ) → Passed all s [] r → named all s r
 unfolding one_of
-none_left all s (At k) p = p
-none_left all s Nothing p = p
+none_left all s (Some k) p = p
+none_left all s None p = p
 
-among_all : (all : List Bytes) (s : Bytes) {n : ℕ} {r : Named} → length s ≡ n → r ≡ sized n s Nothing 0 all → named all s r
+among_all : (all : List Bytes) (s : Bytes) {n : ℕ} {r : Option ℕ} → length s ≡ n → r ≡ sized n s None 0 all → named all s r
 among_all all s {n} {r} h e =
-    let f : r ≡ sized (length s) s Nothing 0 all = rw h e in
-    subst (named all s) (sym f) (none_left all s (sized (length s) s Nothing 0 all) (all_passed all s 0 all refl Nothing refl))
+    let f : r ≡ sized (length s) s None 0 all = rw h e in
+    subst (named all s) (sym f) (none_left all s (sized (length s) s None 0 all) (all_passed all s 0 all refl None refl))
 
 -- what is found among the names of the length of s
-pub by_length : (s : Bytes) {n : ℕ} {r : Named} → length s ≡ n → r ≡ sized n s Nothing 0 names → named names s r
+pub by_length : (s : Bytes) {n : ℕ} {r : Option ℕ} → length s ≡ n → r ≡ sized n s None 0 names → named names s r
 by_length s h e = among_all names s h e
 
 -- ---- the last arm of a match
@@ -108,7 +109,7 @@ abbrev lengths_in : List ℕ → List Bytes → Bool
 lengths_in ls [] = true
 lengths_in ls (t ∷ ts) = among (length t) ls && lengths_in ls ts
 
-none_sized : (s : Bytes) (n : ℕ) (ls : List ℕ) → NoneOf n ls → (k : ℕ) (ts : List Bytes) → T (lengths_in ls ts) → sized n s Nothing k ts ≡ Nothing
+none_sized : (s : Bytes) (n : ℕ) (ls : List ℕ) → NoneOf n ls → (k : ℕ) (ts : List Bytes) → T (lengths_in ls ts) → sized n s None k ts ≡ None
 none_sized s n ls h k [] i = refl
 none_sized s n ls h k (t ∷ ts) i =
     let l : ℕ = length t in
@@ -141,35 +142,31 @@ name_one s k h e = rw (sym e) (one_at names k h)
 
 -- ---- the search with no place told
 
-abbrev is_at : Named → Bool
-is_at (At k) = true
-is_at Nothing = false
-
 -- whether x holds, or s is one of the texts that have the length n
 abbrev hits : ℕ → Bytes → Bool → List Bytes → Bool
 hits n s x [] = x
 hits n s x (t ∷ ts) = hits n s (cond (eqb n (length t)) (x || same t s) x) ts
 
-hit : (b y : Bool) (k : ℕ) (r : Named) → cond b (is_at r || y) (is_at r) ≡ is_at (cond b (or_else r (cond y (At k) Nothing)) r)
+hit : (b y : Bool) (k : ℕ) (r : Option ℕ) → cond b (is_some r || y) (is_some r) ≡ is_some (cond b (option_or r (then_some y k)) r)
 hit false y k r = refl
-hit true y k (At j) = refl
-hit true true k Nothing = refl
-hit true false k Nothing = refl
+hit true y k (Some j) = refl
+hit true true k None = refl
+hit true false k None = refl
 
-hits_sized : (n : ℕ) (s : Bytes) (r : Named) (k : ℕ) (ts : List Bytes) → hits n s (is_at r) ts ≡ is_at (sized n s r k ts)
+hits_sized : (n : ℕ) (s : Bytes) (r : Option ℕ) (k : ℕ) (ts : List Bytes) → hits n s (is_some r) ts ≡ is_some (sized n s r k ts)
 hits_sized n s r k [] = refl
 hits_sized n s r k (t ∷ ts) =
     ap (λ (x : Bool). hits n s x ts) (hit (eqb n (length t)) (same t s) k r)
-    ∙ hits_sized n s (cond (eqb n (length t)) (or_else r (place_of s t k)) r) (suc k) ts
+    ∙ hits_sized n s (cond (eqb n (length t)) (option_or r (place_of s t k)) r) (suc k) ts
 
-named_one : (s : Bytes) (r : Named) → named names s r → is_at r ≡ one_of names s
-named_one s (At k) h = sym (name_one s k h.0 h.1)
-named_one s Nothing h = sym h
+named_one : (s : Bytes) (r : Option ℕ) → named names s r → is_some r ≡ one_of names s
+named_one s (Some k) h = sym (name_one s k h.0 h.1)
+named_one s None h = sym h
 
 -- what is found among the names of the length of s
 pub one_by_length : (s : Bytes) {n : ℕ} {x : Bool} → length s ≡ n → x ≡ hits n s false names → x ≡ one_of names s
 one_by_length s {n} h e =
-    e ∙ hits_sized n s Nothing 0 names ∙ named_one s (sized n s Nothing 0 names) (by_length s h refl)
+    e ∙ hits_sized n s None 0 names ∙ named_one s (sized n s None 0 names) (by_length s h refl)
 
 -- ---- a name put
 

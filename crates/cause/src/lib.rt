@@ -8,8 +8,9 @@
 // first. `names` knows the names and writes one by its place; `white` knows white space.
 #![tactic(auto)]
 
-ghost use Rattle.std.specs.Prelude.{◌≡◌, false};
-ghost use Rattle.definition.specs.Cause.{names, one_of, dotted, cause_of, stored};
+ghost use Rattle.std.specs.Prelude.{◌≡◌, ◌+◌, true, false, length, drop, MatchOption};
+ghost use Rattle.octets.specs.Bytes.{begins};
+ghost use Rattle.definition.specs.Cause.{names, one_of, other as mark, dotted, cause_of, stored};
 ghost use Rattle.cause.specs.Meaning.{cause_value, cause_fits};
 
 mod names;
@@ -22,74 +23,71 @@ pub use names::put_name;
 pub enum Cause {
     Name(usize),
     Other { at: usize, len: usize },
-    No,
 }
+
+// What stands before a dotted name.
+const OTHER: &[u8; 6] = b"other:";
 
 // Whether s is a dotted name.
 fn is_dotted(s: &[u8]) -> bool
     ensures { result ≡ dotted s.now }
 {
-    let mut i = 0;
     let mut open = false;
     let mut dot = false;
-    while i < s.len() {
-        if s[i] == b'.' {
+    for (i, b) in s.iter().enumerate() {
+        if *b == b'.' {
             if !open {
                 return false;
             }
             open = false;
             dot = true;
-            i += 1;
         } else {
-            if white::space_at(s, i) != 0 {
+            if white::space(&s[i..]).is_some() {
                 return false;
             }
             open = true;
-            i += 1;
         }
     }
     open && dot
 }
 
-// The cause that s is.
-pub fn cause_of(s: &[u8]) -> Cause
+// What s has behind `other:`, if it begins with that.
+fn behind_other(s: &[u8]) -> Option<&[u8]>
+    ensures { MatchOption result (begins mark s.now ≡ false) (λ name. (begins mark s.now ≡ true) × (name.now ≡ drop 6 s.now) × (length name.now + 6 ≡ length s.now)) }
+{
+    s.strip_prefix(OTHER)
+}
+
+// The cause that s is, if it is one.
+pub fn cause_of(s: &[u8]) -> Option<Cause>
     ensures { (cause_value s.now result ≡ cause_of s.now) × cause_fits s.now result }
 {
     match names::name(s) {
-        names::Named::At(k) => Cause::Name(k),
-        names::Named::Nothing => other(s),
+        Some(k) => Some(Cause::Name(k)),
+        None => other(s),
     }
 }
 
 // The cause that s is, where it is none of the names.
-fn other(s: &[u8]) -> Cause
+fn other(s: &[u8]) -> Option<Cause>
     requires { one_of names s.now ≡ false }
     ensures { (cause_value s.now result ≡ cause_of s.now) × cause_fits s.now result }
 {
-    if s.len() < 6 {
-        return Cause::No;
-    }
-    if !octets::starts(s, b"other:") {
-        return Cause::No;
-    }
-    let a = white::trim_start(&s[6..]) + 6;
-    let n = white::trim_end(&s[a..]);
-    let e = a + n;
-    if is_dotted(&s[a..e]) {
-        Cause::Other { at: a, len: n }
-    } else {
-        Cause::No
-    }
+    let name = behind_other(s)?;
+    let start = white::trim_start(name);
+    let len = white::trim_end(&name[start..]);
+    let end = start + len;
+    is_dotted(&name[start..end]).then_some(Cause::Other {
+        at: OTHER.len() + start,
+        len,
+    })
 }
 
 // Whether s is a cause in its stored form.
 pub fn is_stored(s: &[u8]) -> bool
     ensures { result ≡ stored s.now }
 {
-    if names::is_one(s) {
-        return true;
-    }
-    other_stored(s)
+    names::is_one(s) || other_stored(s)
 }
 
 // Whether s is such a cause, where it is none of the names.
@@ -97,11 +95,5 @@ fn other_stored(s: &[u8]) -> bool
     requires { one_of names s.now ≡ false }
     ensures { result ≡ stored s.now }
 {
-    if s.len() < 6 {
-        return false;
-    }
-    if !octets::starts(s, b"other:") {
-        return false;
-    }
-    is_dotted(&s[6..])
+    behind_other(s).is_some_and(is_dotted)
 }

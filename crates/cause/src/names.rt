@@ -6,14 +6,7 @@ ghost use Rattle.std.specs.Prelude.{◌≡◌, [], ◌+◌, ◌≤◌, ◌<◌, 
 ghost use Rattle.octets.specs.Bytes.{same, splice};
 ghost use Rattle.octets.specs.Put.{Put};
 ghost use Rattle.definition.specs.Cause.{names, one_of};
-ghost use Rattle.cause.specs.Meaning.{named, place_of, or_else};
-
-// Which of the names a string is.
-#[derive(Clone, Copy)]
-pub(crate) enum Named {
-    At(usize),
-    Nothing,
-}
+ghost use Rattle.cause.specs.Meaning.{named, place_of};
 
 const CONFIG_APPLY_FAILED: [u8; 19] = *b"config-apply-failed";
 
@@ -64,63 +57,45 @@ fn is_text(s: &[u8], text: &[u8]) -> bool
     if s.len() != text.len() {
         return false;
     }
-    let mut x: u8 = 0;
-    let mut i = 0;
-    while i < text.len() {
-        x = x | (text[i] ^ s[i]);
-        i += 1;
+    let mut difference = 0;
+    for (x, y) in text.iter().zip(s) {
+        difference |= *x ^ *y;
     }
-    x == 0
+    difference == 0
 }
 
-// The place k where s is the text given, or none.
-fn place(s: &[u8], text: &[u8], k: usize) -> Named
+// The place k, if s is the text given.
+fn place(s: &[u8], text: &[u8], k: usize) -> Option<usize>
     ensures { result ≡ place_of s.now text.now k }
 {
-    if is_text(s, text) {
-        Named::At(k)
-    } else {
-        Named::Nothing
-    }
-}
-
-impl Named {
-    // This place, or else k where s is the text given.
-    fn or(self, s: &[u8], text: &[u8], k: usize) -> Named
-        ensures { result ≡ or_else self (place_of s.now text.now k) }
-    {
-        match self {
-            Named::At(i) => Named::At(i),
-            Named::Nothing => place(s, text, k),
-        }
-    }
+    is_text(s, text).then_some(k)
 }
 
 // The place of s among the names.
-pub(crate) fn name(s: &[u8]) -> Named
+pub(crate) fn name(s: &[u8]) -> Option<usize>
     ensures { named names s.now result }
 {
     match s.len() {
         10 => place(s, &LEASE_LOST, 7),
         12 => place(s, &SBI_OVERLOAD, 10),
         15 => place(s, &BACKEND_TIMEOUT, 8)
-            .or(s, &NRF_UNREACHABLE, 9)
-            .or(s, &KEY_UNAVAILABLE, 16),
+            .or(place(s, &NRF_UNREACHABLE, 9))
+            .or(place(s, &KEY_UNAVAILABLE, 16)),
         16 => place(s, &PEER_UNREACHABLE, 11),
-        18 => place(s, &STORAGE_CORRUPTION, 14).or(s, &LI_DELIVERY_FAILED, 17),
+        18 => place(s, &STORAGE_CORRUPTION, 14).or(place(s, &LI_DELIVERY_FAILED, 17)),
         19 => place(s, &CONFIG_APPLY_FAILED, 0)
-            .or(s, &CERTIFICATE_EXPIRED, 3)
-            .or(s, &AUDIT_CHAIN_INVALID, 15),
+            .or(place(s, &CERTIFICATE_EXPIRED, 3))
+            .or(place(s, &AUDIT_CHAIN_INVALID, 15)),
         20 => place(s, &CERTIFICATE_EXPIRING, 2)
-            .or(s, &IDENTITY_UNAVAILABLE, 4)
-            .or(s, &SECURITY_BREAK_GLASS, 20),
-        21 => place(s, &CONFIG_DRIFT_DETECTED, 1).or(s, &PACKET_DROP_THRESHOLD, 12),
+            .or(place(s, &IDENTITY_UNAVAILABLE, 4))
+            .or(place(s, &SECURITY_BREAK_GLASS, 20)),
+        21 => place(s, &CONFIG_DRIFT_DETECTED, 1).or(place(s, &PACKET_DROP_THRESHOLD, 12)),
         22 => place(s, &CHARGING_EXPORT_FAILED, 18),
         24 => place(s, &PRIVACY_POLICY_VIOLATION, 19),
         25 => place(s, &SESSION_STORE_UNAVAILABLE, 6),
         26 => place(s, &DATAPLANE_PREFLIGHT_FAILED, 13),
         28 => place(s, &AUTHORIZATION_POLICY_INVALID, 5),
-        _ => Named::Nothing,
+        _ => None,
     }
 }
 

@@ -10,26 +10,26 @@ returns-in-12 c = by_length _ c.in-12.is c.place-in-12.ensures
 
 pub returns-in-15 : goal.returns-in-15
 returns-in-15 c =
-    by_length _ c.in-15.is (rw (c.or.ensures, c.place-in-15.ensures) at c.or-in-15.ensures)
+    by_length _ c.in-15.is (rw (c.or.ensures, c.place-in-15.ensures, c.place-in-15-2.ensures, c.place-in-15-3.ensures) at c.or-in-15.ensures)
 
 pub returns-in-16 : goal.returns-in-16
 returns-in-16 c = by_length _ c.in-16.is c.place-in-16.ensures
 
 pub returns-in-18 : goal.returns-in-18
 returns-in-18 c =
-    by_length _ c.in-18.is (rw c.place-in-18.ensures at c.or-in-18.ensures)
+    by_length _ c.in-18.is (rw (c.place-in-18.ensures, c.place-in-18-2.ensures) at c.or-in-18.ensures)
 
 pub returns-in-19 : goal.returns-in-19
 returns-in-19 c =
-    by_length _ c.in-19.is (rw (c.or-in-19.ensures, c.place-in-19.ensures) at c.or-in-19-2.ensures)
+    by_length _ c.in-19.is (rw (c.or-in-19.ensures, c.place-in-19.ensures, c.place-in-19-2.ensures, c.place-in-19-3.ensures) at c.or-in-19-2.ensures)
 
 pub returns-in-20 : goal.returns-in-20
 returns-in-20 c =
-    by_length _ c.in-20.is (rw (c.or-in-20.ensures, c.place-in-20.ensures) at c.or-in-20-2.ensures)
+    by_length _ c.in-20.is (rw (c.or-in-20.ensures, c.place-in-20.ensures, c.place-in-20-2.ensures, c.place-in-20-3.ensures) at c.or-in-20-2.ensures)
 
 pub returns-in-21 : goal.returns-in-21
 returns-in-21 c =
-    by_length _ c.in-21.is (rw c.place-in-21.ensures at c.or-in-21.ensures)
+    by_length _ c.in-21.is (rw (c.place-in-21.ensures, c.place-in-21-2.ensures) at c.or-in-21.ensures)
 
 pub returns-in-22 : goal.returns-in-22
 returns-in-22 c = by_length _ c.in-22.is c.place-in-22.ensures

@@ -2,18 +2,18 @@
 use mathlib.Core.Path.{◌∙◌, sym}
 use native.Mathlib.Omega.{arith}
 use Rattle.definition.proofs.Laws.Text.White.{start_plain}
-use Rattle.cause.proofs.Trim.{start_step, start_end}
-use borrow.Author.Rules.{rules}
+use Rattle.cause.proofs.Trim.{start_step, space_part}
+use Rattle.cause.proofs.Spaces.{found_space, found_none}
 use Rattle.cause.proofs.white.trim_start.Goals as goal
 
-pub returns-then-n-eq0 : goal.returns-then-n-eq0
-returns-then-n-eq0 c =
-    (omega arith, sym c.loop-i.invariant.1 ∙ start_plain _ (sym c.space_at-n.ensures.0 ∙ c.if-n-eq0.true))
-
-pub loop-i-preserved : goal.loop-i-preserved
-loop-i-preserved c =
-    (search rules, start_step _ c.loop-i.i _ c.space_at-n.ensures.0 c.if-n-eq0.false ∙ c.loop-i.invariant.1)
+pub loop-n-preserved : goal.loop-n-preserved
+loop-n-preserved c =
+    let f = found_space c.space.ensures.tells c.in-Some.is in
+    let p = space_part c.args.s.now c.loop-n.start c.in-Some.n c.loop-n.invariant.0 f.1 in
+    (p.1, start_step _ c.loop-n.start _ p.0 (λ z. omega (arith, f.0, z)) ∙ c.loop-n.invariant.1)
 
 pub returns : goal.returns
 returns c =
-    (omega arith, sym c.loop-i.invariant.1 ∙ start_end _ c.loop-i.i (omega arith))
+    let f = found_none c.space.ensures.tells c.in_default.is in
+    let p = space_part c.args.s.now c.loop-n.start 0 c.loop-n.invariant.0 (sym f) in
+    (c.loop-n.invariant.0, sym c.loop-n.invariant.1 ∙ start_plain _ (sym p.0))

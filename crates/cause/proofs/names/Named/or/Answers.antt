@@ -1,8 +1,0 @@
--- A place that was found stays.
-use Rattle.cause.proofs.names.Named.or.Goals as goal
-
-pub returns-in-At : goal.returns-in-At
-returns-in-At c = rw c.in-At.is
-
-pub returns-in-Nothing : goal.returns-in-Nothing
-returns-in-Nothing c = rw c.in-Nothing.is c.place.ensures
