@@ -89,7 +89,7 @@ fn obeys(string: &[u8], kind: StringKind) -> bool
     ensures { result ≡ obeyed kind string.now }
 {
     match kind {
-        StringKind::Text => utf8::is_well_formed(utf8::check(string)),
+        StringKind::Text => utf8::check(string).is_some(),
         StringKind::Blob => true,
     }
 }
@@ -121,11 +121,12 @@ pub fn read_raise_text(left: &[u8]) -> SpanRead
     let b = read_blob(left, Record::TEXT);
     let p = b.span;
     let next = b.next;
-    let form = utf8::check(model::part(left, p));
-    let next = refuse_unless(next, utf8::is_well_formed(form), 27);
+    let count = utf8::check(model::part(left, p));
+    let next = refuse_unless(next, count.is_some(), 27);
+    let few = count.is_some_and(|n| n <= Record::TEXT_CODE_POINTS);
     SpanRead {
         span: p,
-        next: refuse_unless(next, utf8::has_at_most(form, Record::TEXT_CODE_POINTS), 33),
+        next: refuse_unless(next, few, 33),
     }
 }
 
@@ -161,15 +162,15 @@ pub fn read_cause(left: &[u8]) -> CauseRead
     let next = t.next;
     let at = p.at;
     match cause::cause_of(model::part(left, p)) {
-        Cause::Name(k) => CauseRead {
+        Some(Cause::Name(k)) => CauseRead {
             cause: CauseSpan::Name(k),
             next: next,
         },
-        Cause::Other { at: x, len: n } => CauseRead {
+        Some(Cause::Other { at: x, len: n }) => CauseRead {
             cause: CauseSpan::Other(Span { at: at + x, len: n }),
             next: next,
         },
-        Cause::No => CauseRead {
+        None => CauseRead {
             cause: CauseSpan::Name(0),
             next: refuse_unless(next, false, 28),
         },
