@@ -10,7 +10,6 @@ ghost use Rattle.std.specs.Prelude.{◌≡◌, ◌+◌, ◌≤◌, ◌<◌, leng
 
 use std::io;
 use std::io::{Read, Write};
-use utf8::Form;
 
 fn say<W: Write>(writer: &mut W, text: &[u8]) -> io::Result<()> {
     writer.write_all(text)
@@ -20,88 +19,57 @@ fn end_line<W: Write>(writer: &mut W) -> io::Result<()> {
     say(writer, b"\n")
 }
 
-fn wide(x: u8) -> u64
-    ensures { result ≡ x }
-{
-    x as u64
-}
-
-fn show_byte<W: Write>(writer: &mut W, b: usize) -> io::Result<()> {
+fn show_byte<W: Write>(writer: &mut W, b: u8) -> io::Result<()> {
     write!(writer, "{b:02x}")
 }
 
 // ---- the check
 
-// Whether two answers are the same, the number of code points too.
-fn agree(a: Form, b: Form) -> bool {
-    match a {
-        Form::WellFormed(n) => match b {
-            Form::WellFormed(k) => n == k,
-            Form::IllFormed => false,
-        },
-        Form::IllFormed => !utf8::is_well_formed(b),
-    }
-}
-
 // The answer for s, with and without a look for ASCII first. Where the two differ, s is not accepted, and a `!` goes out, which is in no
 // expected output.
-fn answer<W: Write>(writer: &mut W, s: &[u8]) -> io::Result<Form> {
+fn answer<W: Write>(writer: &mut W, s: &[u8]) -> io::Result<Option<usize>> {
     let quick = utf8::check(s);
-    if agree(quick, utf8::check_run(s)) {
+    if quick == utf8::check_run(s) {
         return Ok(quick);
     }
     say(writer, b"!")?;
-    Ok(Form::IllFormed)
-}
-
-// 1 for a string that is accepted.
-fn mark(form: Form) -> u8
-    ensures { result ≤ 1 }
-{
-    if utf8::is_well_formed(form) {
-        return 1;
-    }
-    0
+    Ok(None)
 }
 
 // ---- sets of bytes: a mark for each, and behind the last a mark that is never set
 
 // A byte of the set: a range begins with it if the one before is not in the set, and ends with it if the one behind is not.
-fn show_member<W: Write>(writer: &mut W, b: usize, before: u8, behind: u8) -> io::Result<()> {
-    if before == 0 {
+fn show_member<W: Write>(writer: &mut W, b: u8, before: bool, behind: bool) -> io::Result<()> {
+    if !before {
         say(writer, b" ")?;
         show_byte(writer, b)?;
     }
-    if behind == 0 {
+    if !behind {
         say(writer, b"-")?;
         show_byte(writer, b)?;
     }
     Ok(())
 }
 
-fn show_ranges<W: Write>(writer: &mut W, marks: &[u8; 257]) -> io::Result<()> {
-    let mut before = 0;
-    let mut b = 0;
-    while b < 256 {
-        if marks[b] == 1 {
-            show_member(writer, b, before, marks[b + 1])?;
+fn show_ranges<W: Write>(writer: &mut W, marks: &[bool; 257]) -> io::Result<()> {
+    let mut before = false;
+    for b in 0..256 {
+        if marks[b] {
+            show_member(writer, b as u8, before, marks[b + 1])?;
         }
         before = marks[b];
-        b += 1;
     }
     end_line(writer)
 }
 
 // The bytes with which s is accepted, each put at a place of it.
-fn fitting<W: Write>(writer: &mut W, s: &mut [u8], at: usize) -> io::Result<[u8; 257]>
+fn fitting<W: Write>(writer: &mut W, s: &mut [u8], at: usize) -> io::Result<[bool; 257]>
     requires { at < length s.old }
 {
-    let mut marks = [0u8; 257];
-    let mut b = 0;
-    while b < 256 {
+    let mut marks = [false; 257];
+    for b in 0..256 {
         s[at] = b as u8;
-        marks[b] = mark(answer(writer, s)?);
-        b += 1;
+        marks[b] = answer(writer, s)?.is_some();
     }
     Ok(marks)
 }
@@ -116,18 +84,14 @@ fn show_singles<W: Write>(writer: &mut W) -> io::Result<()> {
 // ---- pairs
 
 // The second bytes with which a first byte and an ending x, y are accepted, cut to n bytes in all.
-fn seconds<W: Write>(writer: &mut W, first: u8, x: u8, y: u8, n: usize) -> io::Result<[u8; 257]>
+fn seconds<W: Write>(writer: &mut W, first: u8, x: u8, y: u8, n: usize) -> io::Result<[bool; 257]>
     requires { (2 ≤ n) × (n ≤ 4) }
 {
     let mut s = [first, 0, x, y];
     fitting(writer, &mut s[..n], 1)
 }
 
-fn same(a: &[u8; 257], b: &[u8; 257]) -> bool {
-    octets::equal(a, b)
-}
-
-fn show_row<W: Write>(writer: &mut W, from: usize, to: usize, marks: &[u8; 257]) -> io::Result<()> {
+fn show_row<W: Write>(writer: &mut W, from: u8, to: u8, marks: &[bool; 257]) -> io::Result<()> {
     show_byte(writer, from)?;
     say(writer, b"-")?;
     show_byte(writer, to)?;
@@ -141,28 +105,20 @@ fn show_rows<W: Write>(writer: &mut W, x: u8, y: u8, n: usize) -> io::Result<()>
 {
     let mut from = 0;
     let mut row = seconds(writer, 0, x, y, n)?;
-    let mut first: usize = 1;
-    while first < 256 {
-        let next = seconds(writer, first as u8, x, y, n)?;
-        if !same(&row, &next) {
+    for first in 1..256_usize {
+        let first = first as u8;
+        let next = seconds(writer, first, x, y, n)?;
+        if row != next {
             show_row(writer, from, first - 1, &row)?;
             from = first;
             row = next;
         }
-        first += 1;
     }
     show_row(writer, from, 255, &row)
 }
 
 // The least and the greatest tail, and their neighbours outside: what endings are made of.
-fn edge(k: usize) -> u8 {
-    match k {
-        0 => 0x7F,
-        1 => 0x80,
-        2 => 0xBF,
-        _ => 0xC0,
-    }
-}
+const EDGES: [u8; 4] = [0x7F, 0x80, 0xBF, 0xC0];
 
 fn no_ending<W: Write>(writer: &mut W) -> io::Result<()> {
     say(writer, b"\nending\n")?;
@@ -171,34 +127,37 @@ fn no_ending<W: Write>(writer: &mut W) -> io::Result<()> {
 
 fn one_byte<W: Write>(writer: &mut W, x: u8) -> io::Result<()> {
     say(writer, b"\nending ")?;
-    show_byte(writer, x as usize)?;
+    show_byte(writer, x)?;
     end_line(writer)?;
     show_rows(writer, x, 0, 3)
 }
 
 fn two_bytes<W: Write>(writer: &mut W, x: u8, y: u8) -> io::Result<()> {
     say(writer, b"\nending ")?;
-    show_byte(writer, x as usize)?;
+    show_byte(writer, x)?;
     say(writer, b" ")?;
-    show_byte(writer, y as usize)?;
+    show_byte(writer, y)?;
     end_line(writer)?;
     show_rows(writer, x, y, 4)
 }
 
 fn each_byte<W: Write>(writer: &mut W) -> io::Result<()> {
-    let mut k = 0;
-    while k < 4 {
-        one_byte(writer, edge(k))?;
-        k += 1;
+    for x in EDGES {
+        one_byte(writer, x)?;
+    }
+    Ok(())
+}
+
+fn each_byte_behind<W: Write>(writer: &mut W, x: u8) -> io::Result<()> {
+    for y in EDGES {
+        two_bytes(writer, x, y)?;
     }
     Ok(())
 }
 
 fn each_two_bytes<W: Write>(writer: &mut W) -> io::Result<()> {
-    let mut k = 0;
-    while k < 16 {
-        two_bytes(writer, edge(k / 4), edge(k % 4))?;
-        k += 1;
+    for x in EDGES {
+        each_byte_behind(writer, x)?;
     }
     Ok(())
 }
@@ -218,43 +177,24 @@ const PARTS: usize = (BEFORE + 1) * ENDS;
 const TOO_MANY: usize = 65536;
 
 fn show_hex<W: Write>(writer: &mut W, s: &[u8]) -> io::Result<()> {
-    let mut i = 0;
-    while i < s.len() {
-        let byte = wide(s[i]);
-        write!(writer, "{byte:02x}")?;
-        i += 1;
+    for b in s {
+        show_byte(writer, *b)?;
     }
     Ok(())
 }
 
 // How many of nine strings are accepted: a text from a place on, whole and with 1 to 8 bytes of its end left out.
-fn accepted<W: Write>(writer: &mut W, text: &[u8], from: usize) -> io::Result<u64>
+fn accepted<W: Write>(writer: &mut W, text: &[u8], from: usize) -> io::Result<usize>
     requires { from + 8 ≤ length text.now }
 {
-    let mut count: u64 = 0;
-    let mut out = 0;
-    while out <= BEHIND {
+    let mut count = 0;
+    for out in 0..ENDS {
         let e = text.len() - out;
-        count += wide(mark(answer(writer, &text[from..e])?));
-        out += 1;
+        if answer(writer, &text[from..e])?.is_some() {
+            count += 1;
+        }
     }
     Ok(count)
-}
-
-fn lesser(a: usize, b: usize) -> usize
-    ensures { result ≤ b }
-{
-    if a < b {
-        return a;
-    }
-    b
-}
-
-fn greater(a: usize, b: usize) -> usize {
-    if a < b {
-        return b;
-    }
-    a
 }
 
 // How many code points the whole text has, by the check of a part: the part's, and one for each byte of ASCII left out, `from` before it
@@ -263,10 +203,9 @@ fn by_part<W: Write>(writer: &mut W, text: &[u8], from: usize, out: usize) -> io
     requires { (from ≤ 20) × (out ≤ 8) × (from + out ≤ length text.now) }
 {
     let e = text.len() - out;
-    let form = answer(writer, &text[from..e])?;
-    match form {
-        Form::WellFormed(n) => Ok(lesser(n, TOO_MANY) + from + out),
-        Form::IllFormed => Ok(0),
+    match answer(writer, &text[from..e])? {
+        Some(n) => Ok(n.min(TOO_MANY) + from + out),
+        None => Ok(0),
     }
 }
 
@@ -277,12 +216,10 @@ fn show_code_points<W: Write>(writer: &mut W, text: &[u8]) -> io::Result<()>
 {
     let mut least = by_part(writer, text, 0, 0)?;
     let mut greatest = least;
-    let mut k = 1;
-    while k < PARTS {
+    for k in 1..PARTS {
         let n = by_part(writer, text, k / ENDS, k % ENDS)?;
-        least = lesser(least, n);
-        greatest = greater(greatest, n);
-        k += 1;
+        least = least.min(n);
+        greatest = greatest.max(n);
     }
     write!(writer, "{least}-{greatest}")
 }
@@ -295,11 +232,9 @@ fn show_text<W: Write>(writer: &mut W, text: &[u8]) -> io::Result<()> {
     let e = text.len() - BEHIND;
     show_hex(writer, &text[BEFORE..e])?;
     say(writer, b" ")?;
-    let mut from = 0;
-    while from <= BEFORE {
+    for from in 0..=BEFORE {
         let count = accepted(writer, text, from)?;
         write!(writer, "{count}")?;
-        from += 1;
     }
     say(writer, b" ")?;
     show_code_points(writer, text)?;
@@ -354,7 +289,7 @@ fn main(rt: HostRuntime) -> io::Result<()> {
     let mut reader = rt.reader();
     let mut writer = io::writer(&rt);
     say(&mut writer, b"empty ")?;
-    let empty = wide(mark(answer(&mut writer, b"")?));
+    let empty = u8::from(answer(&mut writer, b"")?.is_some());
     write!(writer, "{empty}")?;
     end_line(&mut writer)?;
     show_singles(&mut writer)?;
