@@ -10,7 +10,7 @@ import sys
 from checklist import Skip, run
 from header import LIBRARY
 
-QUICK = {"record_check::string_at", "record_check::option_at", "record_check::is_plain_at", "record_check::ruler::is_plain",
+QUICK = {"record_check::string_at", "record_check::option_at", "record_check::is_plain_at", "record_check::ruler::Ruler::is_plain",
          "record_check::ruler::is_clear"}
 OTHERWISE = "record_check::any_string_at"
 # What answers the number of code points: in a caller that drops the number LLVM leaves the counting out, where these stand in the caller.

@@ -1,7 +1,8 @@
 -- Laws of the ruler: what it leaves of a room, byte by byte and as a whole.
-use Rattle.std.specs.Prelude.{◌≡◌, refl, Bool, ◌&&◌, ltb, eqb, length, drop, get_or, replicate}
-use Rattle.std.proofs.Common.{sym, ◌∙◌, lt-ltb, le-ltb, drop_at}
+use Rattle.std.specs.Prelude.{◌≡◌, refl, Bool, ◌&&◌, ltb, eqb, length, drop, replicate}
+use Rattle.std.proofs.Common.{sym, ◌∙◌, lt-ltb, le-ltb, ne_eqb, drop_at}
 use Rattle.std.proofs.Math.Path.{ap, ap₂}
+use mathlib.Core.Logic.{◌⊎◌, inl, inr}
 use mathlib.Core.List.{[], ◌∷◌, ◌++◌, append_assoc}
 use Prim.Native.Nat.{ℕ, zero, suc, ◌+◌, ◌-◌, ◌≤◌, ◌<◌}
 use Rattle.std.proofs.Math.Decide.{dec_lt}
@@ -11,50 +12,47 @@ use Rattle.std.proofs.lemmas.Nat.{and_mask}
 use Rattle.std.proofs.Math.ListN.{take, length-append}
 use Rattle.std.proofs.lemmas.List.{length-replicate, replicate-append-replicate}
 use Rattle.std.proofs.Math.Seq.{take_at}
-use Rattle.octets.specs.Bytes.{Bytes, Octets, same, zeros, blank, splice}
-use Rattle.octets.specs.BoolLaws.{and_assoc}
+use Rattle.octets.specs.Bytes.{Bytes, Octets, same, zeros, blank}
+use Rattle.octets.specs.BoolLaws.{and_assoc, and_true}
 use Rattle.octets.specs.RangeLaws.{eq_on}
-use Rattle.octets.specs.BlankLaws.{blank_step}
+use Rattle.octets.specs.OrLaws.{or_zero}
 use Rattle.utf8.specs.Meaning.{plain}
 use Rattle.record_check.specs.Ruler.{highs, ones, ruler_bytes, under}
 
 -- ---- byte by byte
 
-pub under_length : (s r : Bytes) → length s ≡ length r → length (under s r) ≡ length s
-unfolding under
-under_length [] r h = refl
-under_length (b ∷ s) [] h = absurd (omega arith)
-under_length (b ∷ s) (m ∷ r) h = ap suc (under_length s r (omega arith))
-
-under_at : (s r : Bytes) (i : ℕ) → length s ≡ length r → i < length s → get_or (under s r) i 0 ≡ bit_and (get_or s i 0) (get_or r i 0)
-unfolding under
-under_at [] r i h l = absurd (omega arith)
-under_at (b ∷ s) [] i h l = absurd (omega arith)
-under_at (b ∷ s) (m ∷ r) zero h l = refl
-under_at (b ∷ s) (m ∷ r) (suc i) h l = under_at s r i (omega arith) (omega arith)
+first_zero : (x : ℕ) → eqb 0 x ≡ eqb x 0
+first_zero zero = refl
+first_zero (suc x) = rw (ne_eqb 0 (suc x) (omega arith), ne_eqb (suc x) 0 (omega arith))
 
 -- one more byte, joined by or
-pub under_step :
-    (s r : Bytes) (i x : ℕ) → length s ≡ length r → i < length s → eqb x 0 ≡ blank (take i (under s r)) →
-    eqb (bit_or x (bit_and (get_or s i 0) (get_or r i 0))) 0 ≡ blank (take (i + 1) (under s r))
-under_step s r i x h l e = rw (← under_at s r i h l) (blank_step (under s r) i x (omega (arith, under_length s r h)) e)
+pub under_turn :
+    (x a b : ℕ) (s r : Bytes) → eqb x 0 && blank (under (a ∷ s) (b ∷ r)) ≡ eqb (bit_or x (bit_and a b)) 0 && blank (under s r)
+unfolding under blank same zeros
+under_turn x a b s r =
+    let z = bit_and a b in
+    ap (λ (t : Bool). eqb x 0 && (t && blank (under s r))) (first_zero z)
+    ∙ sym (and_assoc (eqb x 0) (eqb z 0) (blank (under s r)))
+    ∙ ap (λ (t : Bool). t && blank (under s r)) (sym (or_zero x z))
+
+-- behind the shorter of the two nothing is left
+pub under_end : (x : ℕ) (s r : Bytes) → (s ≡ []) ⊎ (r ≡ []) → eqb x 0 && blank (under s r) ≡ eqb x 0
+unfolding under blank same zeros
+under_end x s r (inl e) = rw e (and_true (eqb x 0))
+under_end x [] r (inr e) = and_true (eqb x 0)
+under_end x (b ∷ s) r (inr e) = rw e (and_true (eqb x 0))
 
 -- ---- as a whole
 
 split : (a b x : ℕ) {n : ℕ} → n ≡ a + b → replicate n x ≡ replicate a x ++ replicate b x
 split a b x e = ap (λ (k : ℕ). replicate k x) e ∙ sym (replicate-append-replicate a b x)
 
--- the code fills the ruler with ones, and then its first half with the highest bit
-pub ruler_made : splice (replicate 1024 255) 0 (replicate 512 128) ≡ ruler_bytes
-unfolding ruler_bytes highs ones splice
-ruler_made =
-    ap (λ (w : ℕ). replicate 512 128 ++ drop w (replicate 1024 255)) (length-replicate {A = ℕ} 512 128)
-    ∙ ap (λ (r : Bytes). replicate 512 128 ++ drop 512 r) (split 512 512 255 {n = 1024} refl)
-    ∙ ap (◌++◌ (replicate 512 128)) (drop_at (replicate 512 255) (replicate 512 255) 512 (length-replicate {A = ℕ} 512 255))
-
-pub length_ruler : length ruler_bytes ≡ 1024
+-- ones, of which the first half is replaced by the highest bit
+pub ruler_made : highs 512 ++ drop 512 (replicate 1024 255) ≡ ruler_bytes
 unfolding ruler_bytes highs ones
-length_ruler = length-append {A = ℕ} (replicate 512 128) (replicate 512 255) ∙ ap₂ ◌+◌ (length-replicate {A = ℕ} 512 128) (length-replicate {A = ℕ} 512 255)
+ruler_made =
+    ap (λ (r : Bytes). replicate 512 128 ++ drop 512 r) (split 512 512 255 {n = 1024} refl)
+    ∙ ap (◌++◌ (replicate 512 128)) (drop_at (replicate 512 255) (replicate 512 255) 512 (length-replicate {A = ℕ} 512 255))
 
 module _ (m k j : ℕ) (h : 512 ≡ j + m) (l : k ≤ 512) where
   whole : ruler_bytes ≡ highs j ++ ((highs m ++ ones k) ++ ones (512 - k))

@@ -12,26 +12,45 @@ ghost use Rattle.record_check.specs.Ruler.{ruler_bytes, under};
 
 use model::Record;
 
+// Twice the widest room.
+const RULER: usize = 2 * Record::DETAILS;
+
+// A byte's highest bit.
+const HIGH: u8 = 128;
+
+// What is laid along rooms: a caller makes one for a whole register.
+#[derive(Drop)]
+pub struct Ruler {
+    bytes: [u8; RULER],
+    ghost is_ruler: { bytes ≡ ruler_bytes },
+}
+
+impl Ruler {
+    pub fn new() -> Ruler {
+        let mut bytes = [255; RULER];
+        bytes[..Record::DETAILS].fill(HIGH);
+        Ruler { bytes }
+    }
+
+    // Whether the first m bytes of a room are ASCII, and the others zero.
+    pub(crate) fn is_plain(&self, room: &[u8], m: usize) -> bool
+        requires { (m ≤ length room.now) × (length room.now ≤ 512) }
+        ensures { result ≡ plain (take m room.now) && blank (drop m room.now) }
+    {
+        let a = Record::DETAILS - m;
+        let e = a + room.len();
+        is_clear(room, &self.bytes[a..e])
+    }
+}
+
 // Whether `and` with the ruler leaves nothing of the room.
 fn is_clear(room: &[u8], ruler: &[u8]) -> bool
     requires { length room.now ≡ length ruler.now }
     ensures { result ≡ blank (under room.now ruler.now) }
 {
-    let mut x: u8 = 0;
-    let mut i = 0;
-    while i < room.len() {
-        x = x | (room[i] & ruler[i]);
-        i += 1;
+    let mut left = 0;
+    for (x, y) in room.iter().zip(ruler) {
+        left |= *x & *y;
     }
-    x == 0
-}
-
-// Whether the first m bytes of a room are ASCII, and the others zero.
-pub(crate) fn is_plain(room: &[u8], ruler: &[u8], m: usize) -> bool
-    requires { (m ≤ length room.now) × (length room.now ≤ 512) × (ruler.now ≡ ruler_bytes) }
-    ensures { result ≡ plain (take m room.now) && blank (drop m room.now) }
-{
-    let a = Record::DETAILS - m;
-    let e = a + room.len();
-    is_clear(room, &ruler[a..e])
+    left == 0
 }

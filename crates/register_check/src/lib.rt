@@ -14,17 +14,11 @@ ghost use Rattle.octets.specs.Bytes.{at32};
 ghost use Rattle.definition.specs.Limits.{record_width};
 ghost use Rattle.definition.specs.Book.{payload_width};
 ghost use Rattle.definition.specs.Clauses.Check.{Decides, Lengths, Apart};
-ghost use Rattle.record_check.specs.Ruler.{ruler_bytes};
 ghost use Rattle.register_check.specs.Meaning.{Chain, Gives, Headed, Heads, Linked, Walks, holds, number as number_of};
 
 use model::{HeaderAt, Record};
+use record_check::Ruler;
 use register::Ends;
-
-// The length of the ruler by which the rooms of strings are tested (record_check): twice the widest room.
-const RULER: usize = 2 * Record::DETAILS;
-
-// A byte's highest bit.
-const HIGH: u8 = 128;
 
 #[derive(Clone, Copy)]
 pub enum Soundness {
@@ -57,8 +51,8 @@ enum Walked {
 // ---- one chain
 
 // Whether a payload is one of its chain.
-fn payload_ok(kind: Kind, p: &[u8], ruler: &[u8]) -> bool
-    requires { (length p.now ≡ payload_width) × (ruler.now ≡ ruler_bytes) }
+fn payload_ok(kind: Kind, p: &[u8], ruler: &Ruler) -> bool
+    requires { length p.now ≡ payload_width }
     ensures { result ≡ holds kind p.now }
 {
     match kind {
@@ -85,8 +79,8 @@ fn link_of(register: &[u8], capacity: u32, i: u32) -> u32
 
 // The way by links from `head` on: as many records as `count` says, each of 1 to `capacity` with a payload of its chain, and then 0. The link
 // of the next record is read before a payload is tested, so that memory fetches the one while the processor tests the other.
-fn walk(register: &[u8], capacity: u32, kind: Kind, head: u32, count: u32, ruler: &[u8]) -> Walked
-    requires { (length register.now ≡ record_width * (capacity + 1)) × (ruler.now ≡ ruler_bytes) }
+fn walk(register: &[u8], capacity: u32, kind: Kind, head: u32, count: u32, ruler: &Ruler) -> Walked
+    requires { length register.now ≡ record_width * (capacity + 1) }
     ensures { Walks result kind register.now capacity count head }
 {
     let mut at = head;
@@ -135,8 +129,8 @@ fn length_at(register: &[u8], x: usize) -> u32
     octets::get32(register, HeaderAt::HELD + HeaderAt::CHAIN * x)
 }
 
-fn chain(register: &[u8], capacity: u32, kind: Kind, ruler: &[u8]) -> Walked
-    requires { (length register.now ≡ record_width * (capacity + 1)) × (ruler.now ≡ ruler_bytes) }
+fn chain(register: &[u8], capacity: u32, kind: Kind, ruler: &Ruler) -> Walked
+    requires { length register.now ≡ record_width * (capacity + 1) }
     ensures { Chain result kind register.now capacity }
 {
     let x = number(kind);
@@ -220,8 +214,8 @@ fn apart(p: u32, q: u32, r: u32, t: u32) -> bool
 }
 
 // The four chains of a register whose header is as it should be.
-fn chains(register: &[u8], capacity: u32, ruler: &[u8]) -> Soundness
-    requires { Headed register.now capacity × (ruler.now ≡ ruler_bytes) }
+fn chains(register: &[u8], capacity: u32, ruler: &Ruler) -> Soundness
+    requires { Headed register.now capacity }
     ensures { Gives result register.now }
 {
     let active = chain(register, capacity, Kind::Active, ruler);
@@ -258,7 +252,5 @@ pub fn check(register: &[u8]) -> Soundness
     let HeaderVerdict::Capacity(capacity) = found else {
         return Soundness::Unsound;
     };
-    let mut ruler = [255u8; RULER];
-    octets::put_bytes(&mut ruler, 0, &[HIGH; Record::DETAILS]);
-    chains(register, capacity, &ruler)
+    chains(register, capacity, &Ruler::new())
 }

@@ -8,20 +8,20 @@ use Rattle.register_check.specs.declared.Kind.TheVariants.{Active, History, Audi
 use Rattle.register_check.proofs.chains.Goals as goal
 
 pub returns-in_default : goal.returns-in_default
-returns-in_default c = broken _ _ c.requires.0 Active c.in_default.is c.chain-active.ensures
+returns-in_default c = broken _ _ c.requires Active c.in_default.is c.chain-active.ensures
 
 pub returns-in_default-history : goal.returns-in_default-history
-returns-in_default-history c = broken _ _ c.requires.0 History c.in_default-history.is c.chain-history.ensures
+returns-in_default-history c = broken _ _ c.requires History c.in_default-history.is c.chain-history.ensures
 
 pub returns-in_default-audit : goal.returns-in_default-audit
-returns-in_default-audit c = broken _ _ c.requires.0 Audit c.in_default-audit.is c.chain-audit.ensures
+returns-in_default-audit c = broken _ _ c.requires Audit c.in_default-audit.is c.chain-audit.ensures
 
 pub returns-in_default-free : goal.returns-in_default-free
-returns-in_default-free c = broken _ _ c.requires.0 Free c.in_default-free.is c.chain-free.ensures
+returns-in_default-free c = broken _ _ c.requires Free c.in_default-free.is c.chain-free.ensures
 
 pub returns-then-not-apart : goal.returns-then-not-apart
-returns-then-not-apart c = (judged _ _ c.requires.0 _ _ _ _ (went _ _ c.requires.0 Active c.in-End.is c.chain-active.ensures) (went _ _ c.requires.0 History c.in-End-history.is c.chain-history.ensures) (went _ _ c.requires.0 Audit c.in-End-audit.is c.chain-audit.ensures) (went _ _ c.requires.0 Free c.in-End-free.is c.chain-free.ensures) (λ i. (c.shared_slice_known-1.given i).fits) c.apart.result c.apart.ensures) ∙ c.if-not-apart.true
+returns-then-not-apart c = (judged _ _ c.requires _ _ _ _ (went _ _ c.requires Active c.in-End.is c.chain-active.ensures) (went _ _ c.requires History c.in-End-history.is c.chain-history.ensures) (went _ _ c.requires Audit c.in-End-audit.is c.chain-audit.ensures) (went _ _ c.requires Free c.in-End-free.is c.chain-free.ensures) (λ i. (c.shared_slice_known-1.given i).fits) c.apart.result c.apart.ensures) ∙ c.if-not-apart.true
 
 pub returns : goal.returns
 returns c =
-    stands _ _ c.requires.0 _ _ _ _ (went _ _ c.requires.0 Active c.in-End.is c.chain-active.ensures) (went _ _ c.requires.0 History c.in-End-history.is c.chain-history.ensures) (went _ _ c.requires.0 Audit c.in-End-audit.is c.chain-audit.ensures) (went _ _ c.requires.0 Free c.in-End-free.is c.chain-free.ensures) ((judged _ _ c.requires.0 _ _ _ _ (went _ _ c.requires.0 Active c.in-End.is c.chain-active.ensures) (went _ _ c.requires.0 History c.in-End-history.is c.chain-history.ensures) (went _ _ c.requires.0 Audit c.in-End-audit.is c.chain-audit.ensures) (went _ _ c.requires.0 Free c.in-End-free.is c.chain-free.ensures) (λ i. (c.shared_slice_known-1.given i).fits) c.apart.result c.apart.ensures) ∙ c.if-not-apart.false)
+    stands _ _ c.requires _ _ _ _ (went _ _ c.requires Active c.in-End.is c.chain-active.ensures) (went _ _ c.requires History c.in-End-history.is c.chain-history.ensures) (went _ _ c.requires Audit c.in-End-audit.is c.chain-audit.ensures) (went _ _ c.requires Free c.in-End-free.is c.chain-free.ensures) ((judged _ _ c.requires _ _ _ _ (went _ _ c.requires Active c.in-End.is c.chain-active.ensures) (went _ _ c.requires History c.in-End-history.is c.chain-history.ensures) (went _ _ c.requires Audit c.in-End-audit.is c.chain-audit.ensures) (went _ _ c.requires Free c.in-End-free.is c.chain-free.ensures) (λ i. (c.shared_slice_known-1.given i).fits) c.apart.result c.apart.ensures) ∙ c.if-not-apart.false)

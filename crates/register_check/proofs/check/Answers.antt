@@ -1,6 +1,4 @@
 -- A wrong header shows that the bytes are not sound; the rest is what the chains show.
-use mathlib.Core.Path.{◌∙◌}
-use Rattle.record_check.specs.RulerLaws.{ruler_made}
 use Rattle.register_check.proofs.JudgeLaws.{found, wrong_header}
 use Rattle.register_check.proofs.check.Goals as goal
 
@@ -9,4 +7,4 @@ returns-in_default c = wrong_header _ (found _ c.in_default.is c.header-found.en
 
 pub chains-requires : goal.chains-requires
 chains-requires c =
-    (found _ c.in-Capacity.is c.header-found.ensures, c.put_bytes.ensures ∙ ruler_made)
+    found _ c.in-Capacity.is c.header-found.ensures

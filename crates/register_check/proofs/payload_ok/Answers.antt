@@ -14,4 +14,4 @@ pub returns-in-Audit : goal.returns-in-Audit
 returns-in-Audit c = of_kind Audit _ c.in-Audit.is c.event_ok.ensures
 
 pub returns-in-Free : goal.returns-in-Free
-returns-in-Free c = of_kind Free _ c.in-Free.is (c.is_blank.ensures ∙ blank_payload _ c.requires.0)
+returns-in-Free c = of_kind Free _ c.in-Free.is (c.is_blank.ensures ∙ blank_payload _ c.requires)

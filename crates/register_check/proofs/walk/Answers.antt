@@ -1,6 +1,5 @@
 -- At each turn the records passed are of the chain, the rest of the way decides, and the next record is known.
 use mathlib.Core.Path.{◌∙◌, sym, ap}
-use Prim.Native.Nat.{◌-◌}
 use borrow.Author.Rules.{rules}
 use Rattle.definition.proofs.Laws.Book.LinkLoops.{went_zero, went_past, went_stray}
 use Rattle.register.specs.WalkLaws.{content_width}
@@ -19,7 +18,7 @@ returns-then-capacity-at c = λ p e. went_past _ _ _ _ c.loop-k.at c.loop-k.last
 
 pub payload_ok-requires : goal.payload_ok-requires
 payload_ok-requires c =
-    (content_width c.args.register.now c.loop-k.at (search rules) c.payload.ensures, c.requires.1)
+    content_width c.args.register.now c.loop-k.at (search rules) c.payload.ensures
 
 pub returns-then-not-payload_ok : goal.returns-then-not-payload_ok
 returns-then-not-payload_ok c =

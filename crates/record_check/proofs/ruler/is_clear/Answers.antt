@@ -1,23 +1,18 @@
--- What the ruler leaves of the bytes passed, joined by or.
-use mathlib.Core.Path.{sym, ap, ◌∙◌}
-use Prim.Native.Nat.{◌-◌}
-use native.Mathlib.Omega.{arith}
-use lib.Seq.{take_all}
-use Rattle.octets.specs.Bytes.{blank}
-use Rattle.octets.specs.BlankLaws.{blank_none}
+-- The next two bytes; and the end of the shorter slice.
+use Rattle.std.proofs.Common.{◌∙◌, ap₂, sym, ◌&&◌, nat_eq}
+use Rattle.std.proofs.lemmas.Slice.Zip.{Zip-more, either_empty_from_Zip}
+use Rattle.octets.specs.Bytes.{Bytes, blank}
 use Rattle.record_check.specs.Ruler.{under}
-use Rattle.record_check.specs.RulerLaws.{under_length, under_step}
-use borrow.Author.Rules.{rules}
+use Rattle.record_check.specs.RulerLaws.{under_turn, under_end}
 use Rattle.record_check.proofs.ruler.is_clear.Goals as goal
 
-pub loop-i-init : goal.loop-i-init
-loop-i-init c = (search rules, sym blank_none)
-
-pub loop-i-preserved : goal.loop-i-preserved
-loop-i-preserved c =
-    (search rules, under_step c.args.room.now c.args.ruler.now c.loop-i.i c.loop-i.x c.requires (search rules) c.loop-i.invariant.1)
+pub loop-x-preserved : goal.loop-x-preserved
+loop-x-preserved c =
+    let more = Zip-more c.loop-x.x-iterator c.next.new.self _ _ c.in-Some.is c.next.ensures.steps in
+    c.loop-x.invariant
+    ∙ ap₂ (λ (s r : Bytes). nat_eq c.loop-x.left 0 && blank (under s r)) more.0 more.1
+    ∙ under_turn c.loop-x.left _ _ _ _
 
 pub returns : goal.returns
 returns c =
-    c.loop-i.invariant.1
-    ∙ ap blank (take_all c.loop-i.i (under c.args.room.now c.args.ruler.now) (omega (arith, under_length c.args.room.now c.args.ruler.now c.requires)))
+    sym (c.loop-x.invariant ∙ under_end c.loop-x.left _ _ (either_empty_from_Zip c.loop-x.x-iterator c.next.new.self _ c.in-None.is c.next.ensures.steps))

@@ -1,14 +1,11 @@
--- What the ruler leaves of the bytes passed, joined by or.
-use mathlib.Core.Path.{◌≡◌}
-use Prim.Native.Nat.{◌≤◌, ◌-◌}
-use lib.Dec.{eqb}
-use lib.ListN.{length, take}
+-- What the ruler leaves is what it left of the bytes passed, joined by or, and what it leaves of the others.
+use Rattle.std.proofs.Common.{◌≡◌, ◌&&◌, nat_eq}
+use Rattle.std.specs.Iterator.Adapters.{zip_first, zip_second}
+use Rattle.std.specs.Slice.Iter.{iter_rest}
 use Rattle.octets.specs.Bytes.{blank}
 use Rattle.record_check.specs.Ruler.{under}
 use Rattle.record_check.proofs.ruler.is_clear.Given as goal
 
-abbrev pub invariant-loop-i : goal.invariant-loop-i
-invariant-loop-i l = (l.i ≤ length l.room) × (eqb l.x 0 ≡ blank (take l.i (under l.room l.ruler)))
-
-abbrev pub decreases-loop-i : goal.decreases-loop-i
-decreases-loop-i l = length l.room - l.i
+abbrev pub invariant-loop-x : goal.invariant-loop-x
+invariant-loop-x l =
+    blank (under l.room l.ruler) ≡ nat_eq l.left 0 && blank (under (iter_rest (zip_first l.x-iterator)) (iter_rest (zip_second l.x-iterator)))
