@@ -10,9 +10,9 @@ import sys
 from checklist import Skip, run
 from header import LIBRARY
 
-QUICK = {"record_check::string_at", "record_check::option_at", "record_check::is_plain_at", "record_check::ruler::Ruler::is_plain",
-         "record_check::ruler::is_clear"}
-OTHERWISE = "record_check::any_string_at"
+QUICK = {"record_check::Payload::string_at", "record_check::Payload::option_at", "record_check::Payload::is_plain_at",
+         "record_check::ruler::Ruler::is_plain", "record_check::ruler::is_clear"}
+OTHERWISE = "record_check::Payload::any_string_at"
 # What answers the number of code points: in a caller that drops the number LLVM leaves the counting out, where these stand in the caller.
 COUNTING = {"utf8::check", "utf8::check_run", "utf8::form_of"}
 DECIDING = "utf8::is_run"
