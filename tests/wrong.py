@@ -68,7 +68,7 @@ def rounds(tries):
 
 def changed(text, edit):
     """A file's text with the edit made in its function."""
-    found = re.search(rf"^ *(pub(\(crate\))? )?(extern \"C\" )?fn {edit.function}\(.*?^ ?}}", text, flags=re.M | re.S)
+    found = re.search(rf"^ *(pub(\(crate\))? )?(extern \"C\" )?fn {edit.function}[(<].*?^ ?}}", text, flags=re.M | re.S)
     if not found or not edit.pairs:
         raise ValueError(f"no function {edit.function}, or nothing to change")
     body = found.group(0)

@@ -19,7 +19,7 @@ ghost use Rattle.history.specs.Walk.{alarm_at};
 ghost use Rattle.expiry.specs.Sweep.{takes, step_of, kept_by, Swept, Passes};
 
 use model::Record;
-use register::{ACTIVE, Ends};
+use register::{Chain, Ends};
 
 // What a sweep does to the alarms that it takes.
 #[derive(Clone, Copy)]
@@ -166,8 +166,8 @@ fn sweep(register: &mut [u8], ends: Ends, round: Round, cutoff: u64) -> u32
     requires { Newest register.old ends.history }
     ensures { Swept round cutoff register.old register.new result }
 {
-    let n = register::held(register, ACTIVE);
-    let mut at = register::first(register, ACTIVE);
+    let n = register::held(register, Chain::Active);
+    let mut at = register::first(register, Chain::Active);
     let mut s = Stand {
         ends: ends,
         kept: 0,

@@ -6,7 +6,7 @@ ghost use Rattle.definition.specs.Sound.{sound};
 ghost use Rattle.history.specs.Walk.{alarms_on};
 ghost use Rattle.metrics.specs.Meaning.{worse as worse_of, shown as shown_of};
 
-use register::ACTIVE;
+use register::Chain;
 
 // Stands for a severity where there is none.
 const NONE: u8 = 255;
@@ -67,8 +67,8 @@ pub(crate) fn read(register: &[u8]) -> Headline
     ensures worst_value { result.worst ≡ worst_of (headline (alarms_on 0 register.now)) }
     ensures readiness_value { result.readiness ≡ worst_impact (headline (alarms_on 0 register.now)) }
 {
-    let n = register::held(register, ACTIVE);
-    let mut at = register::first(register, ACTIVE);
+    let n = register::held(register, Chain::Active);
+    let mut at = register::first(register, Chain::Active);
     let mut worst = NONE;
     let mut impact = 0;
     let mut k = 0;

@@ -10,7 +10,7 @@ ghost use Rattle.metrics.specs.Meaning.{Fits, rating_at, most_rows, AllFit, Row,
 
 use super::rating;
 use model::Answer;
-use register::ACTIVE;
+use register::Chain;
 
 // The most rows.
 pub(crate) const ROOM: usize = 1024;
@@ -80,8 +80,8 @@ pub(crate) fn collect(
         records.new
         amounts.new }
 {
-    let n = register::held(register, ACTIVE);
-    let mut at = register::first(register, ACTIVE);
+    let n = register::held(register, Chain::Active);
+    let mut at = register::first(register, Chain::Active);
     let mut m = 0;
     let mut k = 0;
     while k < n {
@@ -122,7 +122,7 @@ pub(crate) fn count_on(
         amounts.old }
     ensures { Tallied register.now covered.rows records.now amounts.new }
 {
-    let n = register::held(register, ACTIVE);
+    let n = register::held(register, Chain::Active);
     let mut at = covered.record;
     let mut k = covered.place;
     while k < n {

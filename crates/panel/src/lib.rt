@@ -14,7 +14,7 @@ ghost use Rattle.history.specs.Walk.{alarms_on};
 ghost use Rattle.panel.specs.Meaning.{call_of, flag_of, Shows};
 
 use model::Refusal;
-use register::ACTIVE;
+use register::Chain;
 
 // A call on the panel: a look, or a write of a value to the byte at a place.
 #[derive(Clone, Copy)]
@@ -62,8 +62,8 @@ fn flags(register: &[u8]) -> u8
     requires { T (sound register.now) }
     ensures { result ≡ by_bits 8 (is_flagged (alarms_on 0 register.now)) }
 {
-    let n = register::held(register, ACTIVE);
-    let mut at = register::first(register, ACTIVE);
+    let n = register::held(register, Chain::Active);
+    let mut at = register::first(register, Chain::Active);
     let mut found = 0;
     let mut k = 0;
     while k < n {
@@ -123,6 +123,10 @@ pub fn show(register: &[u8], block: &mut [u8], call: PanelCall) -> Result<(), Re
     let mask = kept(mask_of(block, call));
     let top = highest(set, mask);
     octets::put_bytes(block, PanelAt::FLAGS, &[set, mask, top, lit(top)]);
-    octets::put32(block, PanelAt::ACTIVE, register::held(register, ACTIVE));
+    octets::put32(
+        block,
+        PanelAt::ACTIVE,
+        register::held(register, Chain::Active),
+    );
     Ok(())
 }

@@ -24,7 +24,7 @@ ghost use Rattle.raising.specs.Meaning.{Ready, updates_at, raises_new};
 use changes::News;
 use model::{Record, Refusal, Span};
 use raise_fields::Raise;
-use register::{ACTIVE, Ends, Found};
+use register::{Chain, Ends, Found};
 use reply::Reply;
 
 // Active record i has the key.
@@ -67,10 +67,7 @@ fn is_active(register: &[u8], call: &[u8], id: Span) -> bool
     ensures { result
         ≡ present (first (has_id (part call.now id)) (station register.now).active) }
 {
-    match register::find_id(register, model::part(call, id)) {
-        Found::At(_, _) => true,
-        Found::Nowhere => false,
-    }
+    register::find_id(register, model::part(call, id)).is_some()
 }
 
 // A new alarm, where there is room on the active chain.
@@ -120,8 +117,8 @@ fn raise_new(
         answer.old
         answer.new }
 {
-    let limit = register::limit(register, ACTIVE);
-    if limit <= register::held(register, ACTIVE) {
+    let limit = register::limit(register, Chain::Active);
+    if limit <= register::held(register, Chain::Active) {
         return Ok(answers::put_limit(answer, key, limit as u64));
     }
     insert(register, ends, call, r, key, answer)
@@ -134,7 +131,7 @@ pub fn raise_at(
     call: &[u8],
     r: Raise,
     key: &[u8],
-    found: Found,
+    found: Option<Found>,
     answer: &mut [u8],
 ) -> Reply
     requires { Ready register.old ends call.now r answer.old
@@ -152,7 +149,7 @@ pub fn raise_at(
         answer.new }
 {
     match found {
-        Found::At(i, _) => Ok(update(register, i, ends, call, r, answer)),
-        Found::Nowhere => raise_new(register, ends, call, r, key, answer),
+        Some(found) => Ok(update(register, found.at, ends, call, r, answer)),
+        None => raise_new(register, ends, call, r, key, answer),
     }
 }

@@ -1,16 +1,14 @@
 -- "Searches take the first match on the active chain": what a search gives, in the definition's words, and what it promises.
-use Rattle.std.specs.Prelude.{ℕ, ◌≤◌, ◌≡◌, List, [], ◌∷◌, Bool, cond, length, take}
+use Rattle.std.specs.Prelude.{ℕ, ◌+◌, ◌*◌, ◌^◌, ◌≤◌, ◌<◌, ◌≡◌, List, [], ◌∷◌, Bool, cond, length, take}
+use Rattle.std.specs.Prelude as std
 use Rattle.std.proofs.Math.Option.{Option, none, some}
 use Rattle.octets.specs.Bytes.{Bytes}
 use Rattle.definition.specs.Chain.{Entry, on_content}
-use Rattle.definition.specs.Alarm.{Alarm, has_key, has_id}
+use Rattle.definition.specs.Alarm.{Alarm}
 use Rattle.definition.specs.Record.{read_alarm}
 use Rattle.definition.specs.Book.{Record, record_of}
 use Rattle.definition.specs.Sound.{station}
-use Rattle.register.specs.declared.By.{By}
-use Rattle.register.specs.declared.By.TheVariants.{Key, Id}
 use Rattle.register.specs.declared.Found.{Found}
-use Rattle.register.specs.declared.Found.TheVariants.{At, Nowhere}
 
 -- ---- the alarms that are looked at
 
@@ -21,10 +19,10 @@ alarm_in e = read_alarm e.content
 abbrev pub alarm_at : Bytes → ℕ → Alarm
 alarm_at b i = alarm_in (record_of b i)
 
--- the test for what an alarm is looked for by
-abbrev pub test_of : By → Bytes → Alarm → Bool
-test_of Key = has_key
-test_of Id = has_id
+-- a closure, by what it asks and what it gives, tells of each record of the register b whether its alarm passes t
+pub record Tells (pre : ℕ → Type 0) (post : ℕ → Bool → Type 0) (b : Bytes) (t : Alarm → Bool) : Type 0 where
+  pub may : (i : ℕ) → i < 2 ^ 32 → 1536 * i + 1536 ≤ length b → pre i
+  pub is : (i : ℕ) → i < 2 ^ 32 → 1536 * i + 1536 ≤ length b → (r : Bool) → post i r → r ≡ t (alarm_at b i)
 
 -- of a string in a room of m bytes that says that it has n, r are there
 pub record Used (n m r : ℕ) : Type 0 where
@@ -48,11 +46,11 @@ first_match t q (e ∷ c) = cond (t e.content) (some (behind q e)) (first_match 
 
 -- ---- what a search gives
 
--- `At`: record i, with the alarm that the register b holds there, behind record p; `Nowhere`: none
-abbrev pub meaning : Bytes → Found → Option Match
-meaning b (At i p) = some (behind p (on_content read_alarm (record_of b i)))
-meaning b Nowhere = none
+-- the record that was found, with the alarm that the register b holds there, behind the one before it; or none
+abbrev pub meaning : Bytes → std.Option Found → Option Match
+meaning b (std.Some f) = some (behind f.previous (on_content read_alarm (record_of b f.at)))
+meaning b std.None = none
 
 -- f is the first match on the active chain, or says that there is none
-pub record Finds (t : Alarm → Bool) (b : Bytes) (f : Found) : Type 0 where
+pub record Finds (t : Alarm → Bool) (b : Bytes) (f : std.Option Found) : Type 0 where
   pub is : meaning b f ≡ first_match t 0 (station b).active

@@ -2,11 +2,11 @@
 use Rattle.std.specs.Prelude.{◌≡◌, List, [], ◌∷◌, map, Bool, true, false, ℕ, ◌+◌, ◌*◌, ◌≤◌, ◌<◌, T, length, drop}
 use Rattle.std.proofs.Math.Path.{refl, sym, ap₂}
 use Rattle.std.proofs.Common.{ap, ◌∙◌, arith, length-take, eq-eqb, ne_eqb}
-use Rattle.std.proofs.Math.Option.{Option, none, some}
+use Rattle.std.proofs.Math.Option.{some}
 use Rattle.std.proofs.Math.ListN.{take}
 use Rattle.octets.specs.Bytes.{Bytes, same, value, at32, number_at}
 use Rattle.octets.specs.PartLaws.{part_front, part_drop, part_part}
-use Rattle.definition.specs.Chain.{Entry, entry, on_content, first, times}
+use Rattle.definition.specs.Chain.{Entry, entry, on_content, first, present, times}
 use Rattle.definition.specs.Alarm.{Alarm, has_key, has_id}
 use Rattle.definition.specs.Slot.{cut}
 use Rattle.definition.specs.Record.{read_alarm}
@@ -18,8 +18,8 @@ use Rattle.definition.proofs.Laws.Book.ChangedChain.{total_on}
 use Rattle.definition.proofs.Laws.Book.Occurrences.{times_cons, times_hit, times_miss}
 use Rattle.definition.specs.Clauses.Moves.{prev_of, CanRelease}
 use Rattle.definition.proofs.Laws.Steps.SoundStation.{sound_holds}
+use Rattle.std.specs.Prelude as std
 use Rattle.register.specs.declared.Found.{Found}
-use Rattle.register.specs.declared.Found.TheVariants.{At, Nowhere}
 use Rattle.register.specs.Search.{Used, alarm_at, Match, behind, first_match, meaning, Finds}
 use Rattle.register.specs.Walk.{Progress}
 use Rattle.register.specs.WalkLaws.{progress_first, progress_end, progress_here, progress_fits, progress_next}
@@ -75,7 +75,7 @@ module _ {t : Alarm → Bool} {b : Bytes} where
     from_here : {c : List Record} → drop k (read_book b).active ≡ c → first_match t q (alarms c) ≡ first_match t 0 (station b).active
     from_here e = ap (λ (c : List Record). first_match t q (alarms c)) (sym e) ∙ w.same
 
-    pub search_end : n ≤ k → Finds t b Nowhere
+    pub search_end : n ≤ k → Finds t b std.None
     unfolding first_match
     search_end l = record { is = from_here (progress_end w.progress l) }
 
@@ -83,7 +83,7 @@ module _ {t : Alarm → Bool} {b : Bytes} where
       pub search_fits : 1536 * at + 1536 ≤ length b
       search_fits = progress_fits w.progress l
 
-      pub search_hit : t (alarm_at b at) ≡ true → Finds t b (At at q)
+      pub search_hit : t (alarm_at b at) ≡ true → Finds t b (std.Some (record { at = at; previous = q }))
       unfolding first_match
       search_hit y = record { is = rw y at (from_here (progress_here w.progress l)) }
 
@@ -135,23 +135,31 @@ stands t q (e ∷ c) {i} {p} {a} h = go (t (read_alarm e.content)) refl (stands 
 
 -- ---- what is known of a search's answer
 
-module _ {t : Alarm → Bool} {b : Bytes} {f : Found} (w : Finds t b f) where
-  is_match : {g : Found} → f ≡ g → first_match t 0 (station b).active ≡ meaning b g
+module _ {t : Alarm → Bool} {b : Bytes} {f : std.Option Found} (w : Finds t b f) where
+  is_match : {g : std.Option Found} → f ≡ g → first_match t 0 (station b).active ≡ meaning b g
   is_match e = sym w.is ∙ ap (meaning b) e
 
   -- its alarm, or none, is what the definition's search finds
-  pub finds_first : {g : Found} → f ≡ g → first t (station b).active ≡ on_some alarm_of (meaning b g)
+  pub finds_first : {g : std.Option Found} → f ≡ g → first t (station b).active ≡ on_some alarm_of (meaning b g)
   finds_first e = sym (first_match_lem t 0 (station b).active) ∙ ap (on_some alarm_of) (is_match e)
 
-  -- its record is on the active chain, behind record p: what the moves ask
-  pub finds_release : {i p : ℕ} → f ≡ At i p → T (sound b) → CanRelease b 0 i p
+  -- whether there is one
+  pub finds_present : std.is_some f ≡ present (first t (station b).active)
+  finds_present = there f refl
+    where
+      there : (g : std.Option Found) → f ≡ g → std.is_some g ≡ present (first t (station b).active)
+      there (std.Some x) e = ap present (sym (finds_first e))
+      there std.None e = ap present (sym (finds_first e))
+
+  -- its record is on the active chain, behind the one before it: what the moves ask
+  pub finds_release : {g : Found} → f ≡ std.Some g → T (sound b) → CanRelease b 0 g.at g.previous
   unfolding station station_of
-  finds_release {i} e h =
+  finds_release {g} e h =
       let k = (sound_holds b h).book in
       let s = stands t 0 (read_book b).active (is_match e) in
       record {
         sound = k;
         which = omega arith;
         on = s.on;
-        before = sym (s.before (omega (arith, total_on 0 (read_book b) i (omega arith), (fair k.legal).once i)));
+        before = sym (s.before (omega (arith, total_on 0 (read_book b) g.at (omega arith), (fair k.legal).once g.at)));
       }

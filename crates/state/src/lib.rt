@@ -116,8 +116,15 @@ fn plain_on(
         result }
 {
     match register::find_id(register, id) {
-        Found::At(i, _) => act(register, i, ends, Deed::Untimed(action), time, answer),
-        Found::Nowhere => answers::put_text(answer, 10, id),
+        Some(found) => act(
+            register,
+            found.at,
+            ends,
+            Deed::Untimed(action),
+            time,
+            answer,
+        ),
+        None => answers::put_text(answer, 10, id),
     }
 }
 
@@ -190,7 +197,7 @@ pub fn clear_at(
     call: &[u8],
     c: Clear,
     key: &[u8],
-    found: Found,
+    found: Option<Found>,
     answer: &mut [u8],
 ) -> usize
     requires { Clearing register.old ends call.now c answer.old
@@ -210,7 +217,7 @@ pub fn clear_at(
     let about = c.key;
     let cause = about.cause;
     match found {
-        Found::At(i, previous) => clear_found(register, i, previous, ends, c.time, answer),
-        Found::Nowhere => answers::put_without(answer, key, call, cause),
+        Some(Found { at, previous }) => clear_found(register, at, previous, ends, c.time, answer),
+        None => answers::put_without(answer, key, call, cause),
     }
 }

@@ -7,10 +7,10 @@ use Rattle.expiry.specs.SweepLaws.{sweep_start, meets_fits, meets_free, sweep_en
 use Rattle.expiry.proofs.sweep.Goals as goal
 
 pub held-n-requires : goal.held-n-requires
-held-n-requires c = (c.requires.whole, omega arith)
+held-n-requires c = c.requires.whole
 
 pub first-at-requires : goal.first-at-requires
-first-at-requires c = (c.requires.whole, omega arith)
+first-at-requires c = c.requires.whole
 
 pub loop-k-init : goal.loop-k-init
 loop-k-init c =

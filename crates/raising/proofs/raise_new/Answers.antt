@@ -11,7 +11,7 @@ pub limit-limit-requires : goal.limit-limit-requires
 limit-limit-requires c = (c.requires.0.standing.whole, omega arith)
 
 pub held-requires : goal.held-requires
-held-requires c = (c.requires.0.standing.whole, omega arith)
+held-requires c = c.requires.0.standing.whole
 
 pub returns-then-limit-held : goal.returns-then-limit-held
 returns-then-limit-held c =

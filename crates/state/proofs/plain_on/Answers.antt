@@ -10,13 +10,13 @@ find_id-requires c = c.requires.0.whole
 
 pub act-requires : goal.act-requires
 act-requires c =
-    (c.requires.0, (finds_release c.find_id.ensures c.in-At.is c.requires.0.whole).on, tt, c.requires.2)
+    (c.requires.0, (finds_release c.find_id.ensures c.in-Some.is c.requires.0.whole).on, tt, c.requires.2)
 
-pub returns-in-At : goal.returns-in-At
-returns-in-At c flag set =
-    on_found (action_of c.args.action) _ _ _ _ _ _ _ c.requires.0.whole flag set _ (finds_first c.find_id.ensures c.in-At.is) c.act.ensures
+pub returns-in-Some : goal.returns-in-Some
+returns-in-Some c flag set =
+    on_found (action_of c.args.action) _ _ _ _ _ _ _ c.requires.0.whole flag set _ (finds_first c.find_id.ensures c.in-Some.is) c.act.ensures
 
-pub returns-in-Nowhere : goal.returns-in-Nowhere
-returns-in-Nowhere c flag set =
+pub returns-in-None : goal.returns-in-None
+returns-in-None c flag set =
     on_none (action_of c.args.action) _ _ _ _ _ _ _ c.requires.0.whole flag set
-    (finds_first c.find_id.ensures c.in-Nowhere.is) refl c.put_text.ensures
+    (finds_first c.find_id.ensures c.in-None.is) refl c.put_text.ensures
