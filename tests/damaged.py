@@ -229,7 +229,7 @@ DAMAGES = {
         ("a law that is nowhere", ARCHITECTURE, r"\Z", "See `Laws/Text/Nowhere.antt`.\n"),
     ],
     (pages, "each enum has its meaning"): [
-        ("an enum left out", CLAIMS, r"^\| `Soundness` .*\n", ""),
+        ("an enum left out", CLAIMS, r"^\| `Parsed` .*\n", ""),
         ("an enum that is not there", CLAIMS, r"^\| `Reply` ", "| `Reply`, `Response` "),
         ("a definition that is not there", CLAIMS, r"`cause_value`: ", "`cause_worth`: "),
     ],

@@ -1,23 +1,25 @@
 -- A walk by links that tests each record: what holds at each turn.
-use Rattle.std.specs.Prelude.{◌≡◌, Bool, true, false, ◌&&◌, T, length}
+use Rattle.std.specs.Prelude.{◌≡◌, refl, eqb, Bool, true, false, ◌&&◌, T, length}
 use Rattle.std.proofs.Math.Path.{sym, ap}
 use Rattle.std.proofs.Common.{◌∙◌, subst}
+use Rattle.std.proofs.lemmas.Bool.{eqb-true, eqb-false}
 use Prim.Native.Nat.{ℕ, suc, ◌+◌, ◌-◌, ◌*◌, ◌≤◌, ◌<◌}
 use native.Mathlib.Omega.{arith}
+use Rattle.std.specs.Bool.{then_some}
 use Rattle.octets.specs.Bytes.{Bytes, same, zeros, blank, at32}
 use Rattle.definition.specs.Book.{Record, payload_width, record_of, walk, every}
-use Rattle.definition.proofs.Laws.Book.LinkLoops.{Went, went_start, went_on, went_end}
+use Rattle.definition.proofs.Laws.Book.LinkLoops.{Went, went_start, went_on, went_end, went_stray}
 use Rattle.definition.specs.Clauses.LegalBook.{last_of}
 use Rattle.definition.specs.Clauses.Check.{Leads}
-use Rattle.register_check.specs.Meaning.{holds}
-use Rattle.register_check.specs.declared.Kind.{Kind}
-use Rattle.register_check.specs.declared.Kind.TheVariants.{Free}
+use Rattle.register_check.specs.Meaning.{holds, passes, Walks}
+use Rattle.register.specs.declared.Chain.{Chain}
+use Rattle.register.specs.declared.Chain.TheVariants.{Free}
 
 -- ---- one payload
 
--- the answer of a kind's own test
-pub of_kind : {r : Bool} {k : Kind} (j : Kind) (p : Bytes) → k ≡ j → r ≡ holds j p → r ≡ holds k p
-of_kind j p e h = h ∙ ap (λ (i : Kind). holds i p) (sym e)
+-- the answer of a chain's own test
+pub of_chain : {r : Bool} {x : Chain} (y : Chain) (p : Bytes) → x ≡ y → r ≡ holds y p → r ≡ holds x p
+of_chain y p e h = h ∙ ap (λ (z : Chain). holds z p) (sym e)
 
 pub blank_payload : (p : Bytes) → length p ≡ payload_width → blank p ≡ holds Free p
 unfolding blank
@@ -56,9 +58,18 @@ module _ (t : Record → Bool) (b : Bytes) (m n i : ℕ) where
     pub tested_not : k < n → t (record_of b at) ≡ false → every t (walk b n i) ≡ true → ⊥
     tested_not h p e = subst (λ (x : Bool). T x) (sym e ∙ sym (here h) ∙ ap (λ (x : Bool). x && every t (walk b (n - (k + 1)) (at32 b (1536 * at)))) p) tt
 
-    pub tested_end : n ≤ k → at ≡ 0 → Leads b m n i × (every t (walk b n i) ≡ true) × (q ≡ last_of (walk b n i))
+    tested_end : n ≤ k → at ≡ 0 → Leads b m n i × (every t (walk b n i) ≡ true) × (q ≡ last_of (walk b n i))
     unfolding walk every
     tested_end h z =
         let e : 0 ≡ n - k = omega arith in
         let l = went_end b m n i at q k w.went h z in
         (l.0, sym w.rest ∙ ap (λ (r : ℕ). every t (walk b r at)) (sym e), l.1)
+
+-- after all its records the way has ended, or strays
+pub tested_gives :
+    (x : Chain) (b : Bytes) (m n i at q k : ℕ) → Tested (passes x) b m n i at q k → n ≤ k → Walks (then_some (eqb at 0) q) x b m n i
+tested_gives x b m n i at q k w h = go (eqb at 0) refl
+  where
+    go : (y : Bool) → eqb at 0 ≡ y → Walks (then_some y q) x b m n i
+    go true e = tested_end (passes x) b m n i at q k w h (eqb-true at 0 e)
+    go false e = λ p s. went_stray b m n i at q k w.went h (eqb-false at 0 e) p

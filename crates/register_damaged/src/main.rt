@@ -6,57 +6,46 @@
 // are made by `python3 tests/register/make.py`, which has a check of its own, written from docs/layout.json.
 #![tactic(auto)]
 
-ghost use Rattle.std.specs.Prelude.{◌≤◌, length, IfOk};
+ghost use Rattle.std.specs.Prelude.{◌≡◌, ◌≤◌, length, IfOk};
 
-use register_check::Soundness;
+use register_check::check;
 use std::io;
 use std::io::{Read, Write};
-
-fn number<W: Write>(writer: &mut W, n: u32) -> io::Result<()> {
-    write!(writer, " {n}")
-}
 
 // The verdict on the first n bytes, and where the chains end.
 fn report<W: Write>(writer: &mut W, work: &[u8], n: usize) -> io::Result<()> {
     if work.len() < n {
         return Ok(());
     }
-    let found = register_check::check(&work[0..n]);
-    let Soundness::Sound(ends) = found else {
+    let Some(ends) = check(&work[..n]) else {
         return writer.write_all(b"unsound\n");
     };
-    writer.write_all(b"sound")?;
-    number(writer, ends.active)?;
-    number(writer, ends.history)?;
-    number(writer, ends.audit)?;
-    writer.write_all(b"\n")
+    writeln!(
+        writer,
+        "sound {} {} {}",
+        ends.active, ends.history, ends.audit
+    )
 }
 
 // A verdict as one character.
 fn verdict(register: &[u8]) -> u8 {
-    match register_check::check(register) {
-        Soundness::Sound(_) => b's',
-        Soundness::Unsound => b'-',
+    if check(register).is_some() {
+        b's'
+    } else {
+        b'-'
     }
-}
-
-fn show<W: Write>(writer: &mut W, line: &[u8; 65]) -> io::Result<()> {
-    writer.write_all(line)
 }
 
 // The verdicts on a register of which each byte in turn is changed, 64 to a line.
 fn flip<W: Write>(writer: &mut W, register: &mut [u8], mask: u8) -> io::Result<()> {
     let mut line = [b'\n'; 65];
-    let mut i = 0;
-    while i < register.len() {
-        let was = register[i];
-        register[i] = was ^ mask;
+    for i in 0..register.len() {
+        register[i] ^= mask;
         line[i % 64] = verdict(register);
-        register[i] = was;
+        register[i] ^= mask;
         if i % 64 == 63 {
-            show(writer, &line)?;
+            writer.write_all(&line)?;
         }
-        i += 1;
     }
     Ok(())
 }
@@ -65,23 +54,18 @@ fn flip_first<W: Write>(writer: &mut W, work: &mut [u8], n: usize, mask: u32) ->
     if work.len() < n {
         return Ok(());
     }
-    flip(writer, &mut work[0..n], (mask % 256) as u8)
+    flip(writer, &mut work[..n], (mask % 256) as u8)
 }
 
 // The n bytes from a place on, and zeros behind them.
 fn load(work: &mut [u8], bytes: &[u8], from: u32, count: u32) {
     let at = from as usize;
     let n = count as usize;
-    let e = at + n;
-    if bytes.len() < e {
+    if bytes.len() < at + n || work.len() < n {
         return;
     }
-    if work.len() < n {
-        return;
-    }
-    let rest = work.len() - n;
-    octets::put_bytes(work, 0, &bytes[at..e]);
-    octets::put_zeros(work, n, rest);
+    work[..n].copy_from_slice(&bytes[at..at + n]);
+    work[n..].fill(0);
 }
 
 fn write(work: &mut [u8], place: u32, value: u32) {
@@ -92,20 +76,39 @@ fn write(work: &mut [u8], place: u32, value: u32) {
     octets::put32(work, at, value);
 }
 
-fn obey<W: Write>(
-    writer: &mut W,
-    work: &mut [u8],
-    bytes: &[u8],
-    order: u32,
-    x: u32,
-    y: u32,
-) -> io::Result<()> {
+// What the input orders.
+#[derive(Clone, Copy)]
+enum Order {
+    Load { from: u32, count: u32 },
+    Write { place: u32, value: u32 },
+    Report { length: u32 },
+    Flip { length: u32, mask: u32 },
+}
+
+// The bytes of an order: its number, and the two that it takes.
+const ORDER: usize = 12;
+
+// None where the number is no order's.
+fn order_of(bytes: &[u8]) -> Option<Order>
+    requires { length bytes.now ≡ 12 }
+{
+    let x = octets::get32(bytes, 4);
+    let y = octets::get32(bytes, 8);
+    match octets::get32(bytes, 0) {
+        1 => Some(Order::Load { from: x, count: y }),
+        2 => Some(Order::Write { place: x, value: y }),
+        3 => Some(Order::Report { length: x }),
+        4 => Some(Order::Flip { length: x, mask: y }),
+        _ => None,
+    }
+}
+
+fn obey<W: Write>(writer: &mut W, work: &mut [u8], bytes: &[u8], order: Order) -> io::Result<()> {
     match order {
-        1 => load(work, bytes, x, y),
-        2 => write(work, x, y),
-        3 => report(writer, work, x as usize)?,
-        4 => flip_first(writer, work, x as usize, y)?,
-        _ => {}
+        Order::Load { from, count } => load(work, bytes, from, count),
+        Order::Write { place, value } => write(work, place, value),
+        Order::Report { length } => report(writer, work, length as usize)?,
+        Order::Flip { length, mask } => flip_first(writer, work, length as usize, mask)?,
     }
     Ok(())
 }
@@ -113,13 +116,10 @@ fn obey<W: Write>(
 // The work's bytes have room for the largest register and a record more.
 fn obey_all<W: Write>(writer: &mut W, bytes: &[u8], orders: &[u8]) -> io::Result<()> {
     let mut work = [0u8; 20480];
-    let mut at = 0;
-    while at + 12 <= orders.len() {
-        let order = octets::get32(orders, at);
-        let x = octets::get32(orders, at + 4);
-        let y = octets::get32(orders, at + 8);
-        obey(writer, &mut work, bytes, order, x, y)?;
-        at += 12;
+    for part in orders.chunks_exact(ORDER) {
+        if let Some(order) = order_of(part) {
+            obey(writer, &mut work, bytes, order)?;
+        }
     }
     Ok(())
 }

@@ -10,12 +10,10 @@
 ghost use Rattle.definition.specs.Claim.{OpenReturns, StepReturns};
 ghost use Rattle.definition.specs.Panel.{look, write, PanelReturns};
 ghost use Rattle.panel.specs.Meaning.{call_of};
-ghost use Rattle.model.specs.Refusal.{number_in};
-ghost use Rattle.reply.specs.Meaning.{length_in};
+ghost use Rattle.reply.specs.Meaning.{number_in, length_in};
 
 use model::Record;
 use panel::PanelCall;
-use register_check::Soundness;
 use reply::Reply;
 
 // 22 comes first, before the call is read.
@@ -30,14 +28,8 @@ fn step(register: &mut [u8], call: &[u8], answer: &mut [u8]) -> Reply
         register.new }
 {
     match register_check::check(register) {
-        Soundness::Sound(ends) => operations::perform(
-            register,
-            ends,
-            call,
-            call::parse(call),
-            answer,
-        ),
-        Soundness::Unsound => Err(Refusal::Unsound),
+        Some(ends) => operations::perform(register, ends, call, call::parse(call), answer),
+        None => Reply::Refused(22),
     }
 }
 
@@ -76,8 +68,8 @@ fn show(register: &[u8], block: &mut [u8], call: PanelCall) -> u32
     ensures { PanelReturns register.now block.old (call_of call) result 0 block.new }
 {
     match register_check::check(register) {
-        Soundness::Sound(_) => panel::show(register, block, call),
-        Soundness::Unsound => 22,
+        Some(_) => panel::show(register, block, call),
+        None => 22,
     }
 }
 

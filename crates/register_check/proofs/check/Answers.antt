@@ -1,10 +1,9 @@
 -- A wrong header shows that the bytes are not sound; the rest is what the chains show.
-use Rattle.register_check.proofs.JudgeLaws.{found, wrong_header}
+use Rattle.register_check.proofs.JudgeLaws.{wrong_header}
 use Rattle.register_check.proofs.check.Goals as goal
 
-pub returns-in_default : goal.returns-in_default
-returns-in_default c = wrong_header _ (found _ c.in_default.is c.header-found.ensures)
+pub returns-in_err-capacity : goal.returns-in_err-capacity
+returns-in_err-capacity c = rw c.from_residual.ensures (wrong_header _ c.in_err-capacity.ensures)
 
 pub chains-requires : goal.chains-requires
-chains-requires c =
-    found _ c.in-Capacity.is c.header-found.ensures
+chains-requires c = c.in_ok-capacity.ensures
