@@ -11,7 +11,7 @@ use Rattle.definition.specs.Clauses.LegalBook.{last_of}
 use Rattle.definition.specs.Chain.{Entry, on_content, entry, those, without, replaced, times}
 use Rattle.definition.proofs.Laws.Book.Contents.{without_map, replaced_map}
 use Rattle.definition.specs.Alarm.{Alarm}
-use Rattle.definition.specs.Record.{last_active, last_state, alarm_bytes, read_alarm}
+use Rattle.definition.specs.Record.{last_active, alarm_bytes, read_alarm}
 use Rattle.definition.specs.Book.{Record, record_of, read_book}
 use Rattle.definition.proofs.Laws.Book.Split.{last_from, last_from_zero}
 use Rattle.definition.proofs.Laws.Book.Replace.{replace_at}
@@ -20,7 +20,7 @@ use Rattle.definition.specs.Clauses.LegalFields.{Time, LegalAlarm}
 use Rattle.definition.proofs.Laws.Steps.ChangedLegal.{expired_legal, lifted_legal}
 use Rattle.definition.specs.Station.{Step, give, for_each}
 use Rattle.definition.proofs.Laws.Steps.LegalSteps.{retire_legal, revise_legal}
-use Rattle.definition.specs.Steps.{on_entry, round, expired_by, lifted_by, retire, revise, retire_due, lift_over, expire, lift}
+use Rattle.definition.specs.Steps.{on_entry, round, lifted_by, retire_due, lift_over, expire, lift}
 use Rattle.definition.specs.Answer.{Answer, Expired, Lifted, head, head_bytes, answer_bytes}
 use Rattle.definition.specs.Sound.{book_of, station_of, station, sound}
 use Rattle.definition.proofs.Laws.Steps.SoundStation.{sound_holds}

@@ -173,12 +173,10 @@ fn sweep(register: &mut [u8], ends: Ends, round: Round, cutoff: u64) -> u32
         kept: 0,
         taken: 0,
     };
-    let mut k = 0;
-    while k < n {
+    for k in 0..n {
         let next = register::next(register, at);
         s = pass(register, at, s, round, cutoff);
         at = next;
-        k += 1;
     }
     s.taken
 }

@@ -71,15 +71,13 @@ pub(crate) fn read(register: &[u8]) -> Headline
     let mut at = register::first(register, Chain::Active);
     let mut worst = NONE;
     let mut impact = 0;
-    let mut k = 0;
-    while k < n {
+    for k in 0..n {
         let alarm = register::payload(register, at);
         let severity = record::severity(alarm);
         let v = shown(record::state(alarm), severity);
         worst = worse(worst, v);
         impact = higher(impact, readiness(v));
         at = register::next(register, at);
-        k += 1;
     }
     Headline {
         worst: worst,

@@ -28,12 +28,10 @@ pub(crate) fn row_of(register: &[u8], records: &[u32; ROOM], m: usize, i: u32) -
     requires { (m ≤ most_rows) × AllFit register.now m records.now × Fits register.now i }
     ensures { Row register.now records.now m (rating_at register.now i) result }
 {
-    let mut j = 0;
-    while j < m {
+    for j in 0..m {
         if rating::same(register, records[j], i) {
             return j;
         }
-        j += 1;
     }
     m
 }
@@ -83,8 +81,7 @@ pub(crate) fn collect(
     let n = register::held(register, Chain::Active);
     let mut at = register::first(register, Chain::Active);
     let mut m = 0;
-    let mut k = 0;
-    while k < n {
+    for k in 0..n {
         let j = row_of(register, records, m, at);
         if j == ROOM {
             return Covered {
@@ -95,11 +92,10 @@ pub(crate) fn collect(
         }
         m = note(records, amounts, m, j, at);
         at = register::next(register, at);
-        k += 1;
     }
     Covered {
         rows: m,
-        place: k,
+        place: n,
         record: at,
     }
 }
@@ -124,12 +120,10 @@ pub(crate) fn count_on(
 {
     let n = register::held(register, Chain::Active);
     let mut at = covered.record;
-    let mut k = covered.place;
-    while k < n {
+    for k in covered.place..n {
         let j = row_of(register, records, covered.rows, at);
         count_in(amounts, covered.rows, j);
         at = register::next(register, at);
-        k += 1;
     }
 }
 
@@ -139,10 +133,8 @@ pub(crate) fn rows_end(register: &[u8], records: &[u32; ROOM], m: usize) -> usiz
     ensures { result ≡ 16 + sizes (row_ratings register.now m records.now) }
 {
     let mut end = Answer::HEAD;
-    let mut j = 0;
-    while j < m {
+    for j in 0..m {
         end += rating::ENTRY + rating::cause(register, records[j]).len();
-        j += 1;
     }
     end
 }
@@ -165,8 +157,7 @@ pub(crate) fn put_rows(
         answer.new }
 {
     let mut end = Answer::HEAD;
-    let mut j = 0;
-    while j < m {
+    for j in 0..m {
         let i = records[j];
         end = answers::put_count(
             answer,
@@ -175,7 +166,6 @@ pub(crate) fn put_rows(
             amounts[j],
             rating::cause(register, i),
         );
-        j += 1;
     }
     end
 }

@@ -65,13 +65,11 @@ fn flags(register: &[u8]) -> u8
     let n = register::held(register, Chain::Active);
     let mut at = register::first(register, Chain::Active);
     let mut found = 0;
-    let mut k = 0;
-    while k < n {
+    for k in 0..n {
         let alarm = register::payload(register, at);
         let severity = record::severity(alarm);
         found = found | flag(record::state(alarm), severity);
         at = register::next(register, at);
-        k += 1;
     }
     found
 }

@@ -1,6 +1,5 @@
 -- `sweep`: along the active chain, from its first record to its last.
 use mathlib.Core.Path.{refl}
-use Prim.Native.Nat.{◌-◌}
 use native.Mathlib.Omega.{arith}
 use borrow.Author.Rules.{rules}
 use Rattle.expiry.specs.SweepLaws.{sweep_start, meets_fits, meets_free, sweep_end}

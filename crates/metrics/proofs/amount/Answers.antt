@@ -1,5 +1,4 @@
 -- `amount`: of the records passed, as many as were found have the rating.
-use Prim.Native.Nat.{◌-◌}
 use mathlib.Core.Path.{sym}
 use native.Mathlib.Omega.{arith}
 use Rattle.definition.specs.Reports.{rating}

@@ -1,5 +1,4 @@
 -- `amount`: of the records passed, as many as were found have the rating.
-use Prim.Native.Nat.{◌-◌}
 use Rattle.definition.specs.Reports.{same_rating}
 use Rattle.history.specs.Walk.{Reached}
 use Rattle.history.specs.CountLaws.{Counted}
@@ -8,6 +7,3 @@ use Rattle.metrics.proofs.amount.Given as goal
 
 abbrev pub invariant-loop-p : goal.invariant-loop-p
 invariant-loop-p l = Reached l.register 0 l.n l.p l.at × Counted (same_rating (rating_at l.register l.i)) (ratings l.register) l.p l.found
-
-abbrev pub decreases-loop-p : goal.decreases-loop-p
-decreases-loop-p l = l.n - l.p

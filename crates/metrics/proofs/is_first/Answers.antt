@@ -1,5 +1,4 @@
 -- `is_first`: no row has the rating, and none of the places passed.
-use Prim.Native.Nat.{◌-◌}
 use mathlib.Core.Path.{sym, ◌∙◌}
 use native.Mathlib.Omega.{arith}
 use Rattle.definition.specs.Reports.{rating}

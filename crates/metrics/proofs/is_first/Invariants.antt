@@ -1,5 +1,4 @@
 -- `is_first`: no row has the rating, and none of the places passed.
-use Prim.Native.Nat.{◌-◌}
 use Rattle.octets.specs.Bytes.{at32}
 use Rattle.history.specs.Walk.{Reached}
 use Rattle.metrics.specs.Meaning.{ratings, rating_at}
@@ -8,6 +7,3 @@ use Rattle.metrics.proofs.is_first.Given as goal
 
 abbrev pub invariant-loop-j : goal.invariant-loop-j
 invariant-loop-j l = Reached l.register 0 (at32 l.register 16) l.j l.at × Unmet (rating_at l.register l.i) (ratings l.register) l.k l.j
-
-abbrev pub decreases-loop-j : goal.decreases-loop-j
-decreases-loop-j l = l.k - l.j

@@ -1,5 +1,4 @@
 -- `measure`: the entries of the places passed, and where they end.
-use Prim.Native.Nat.{◌-◌}
 use mathlib.Core.Path.{refl}
 use native.Mathlib.Omega.{arith}
 use Rattle.history.specs.WalkLaws.{reached_fits, reached_most}

@@ -1,10 +1,6 @@
 -- `measure`: the entries of the places passed, and where they end.
-use Prim.Native.Nat.{◌-◌}
 use Rattle.metrics.specs.ListingLaws.{Measured}
 use Rattle.metrics.proofs.measure.Given as goal
 
 abbrev pub invariant-loop-k : goal.invariant-loop-k
 invariant-loop-k l = Measured l.register l.n l.covered.place l.k l.at l.entries l.end
-
-abbrev pub decreases-loop-k : goal.decreases-loop-k
-decreases-loop-k l = l.n - l.k

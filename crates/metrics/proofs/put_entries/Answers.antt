@@ -1,5 +1,4 @@
 -- `put_entries`: the entries of the rows and of the places passed stand in the answer.
-use Prim.Native.Nat.{◌-◌}
 use mathlib.Core.Path.{sym}
 use native.Mathlib.Omega.{arith}
 use Rattle.history.specs.WalkLaws.{reached_fits}

@@ -1,10 +1,6 @@
 -- `put_entries`: the entries of the rows and of the places passed stand in the answer.
-use Prim.Native.Nat.{◌-◌}
 use Rattle.metrics.specs.ListingLaws.{Written}
 use Rattle.metrics.proofs.put_entries.Given as goal
 
 abbrev pub invariant-loop-k : goal.invariant-loop-k
 invariant-loop-k l = Written l.register l.initial.answer l.answer l.n l.covered.place l.k l.at l.initial.end l.end
-
-abbrev pub decreases-loop-k : goal.decreases-loop-k
-decreases-loop-k l = l.n - l.k

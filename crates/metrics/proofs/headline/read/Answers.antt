@@ -1,5 +1,4 @@
 -- `read`: the worst severity and impact of the records passed.
-use Prim.Native.Nat.{◌-◌}
 use native.Mathlib.Omega.{arith}
 use Rattle.register.specs.WalkLaws.{content_width}
 use Rattle.history.specs.WalkLaws.{reached_first, reached_fits}

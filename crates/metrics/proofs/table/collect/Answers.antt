@@ -1,5 +1,5 @@
 -- `collect`: the rows are the tally of the places passed.
-use Prim.Native.Nat.{◌-◌}
+use mathlib.Core.Path.{◌≡◌}
 use native.Mathlib.Omega.{arith}
 use Rattle.history.specs.WalkLaws.{reached_first, reached_fits, reached_most}
 use Rattle.metrics.specs.RowLaws.{collected_as, collected_none, collected_next}
@@ -35,4 +35,5 @@ loop-k-preserved c =
 
 pub returns : goal.returns
 returns c =
-    collected_as c.held-n.ensures c.loop-k.invariant
+    let e : c.loop-k.k ≡ c.held-n.result = omega (arith, c.loop-k-test.false, c.loop-k.auto.k-end) in
+    collected_as c.held-n.ensures (rw e at c.loop-k.invariant)

@@ -1,5 +1,4 @@
 -- `count_on`: with the rest added, the rows are the first of the tally.
-use Prim.Native.Nat.{◌-◌}
 use mathlib.Core.Path.{sym}
 use native.Mathlib.Omega.{arith}
 use Rattle.history.specs.WalkLaws.{reached_fits, reached_most}

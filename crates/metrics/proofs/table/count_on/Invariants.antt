@@ -1,10 +1,6 @@
 -- `count_on`: with the rest added, the rows are the first of the tally.
-use Prim.Native.Nat.{◌-◌}
 use Rattle.metrics.specs.RowLaws.{Counting}
 use Rattle.metrics.proofs.table.count_on.Given as goal
 
 abbrev pub invariant-loop-k : goal.invariant-loop-k
 invariant-loop-k l = Counting l.register l.n l.k l.at l.covered.rows l.records l.amounts
-
-abbrev pub decreases-loop-k : goal.decreases-loop-k
-decreases-loop-k l = l.n - l.k

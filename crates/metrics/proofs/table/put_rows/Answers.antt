@@ -1,5 +1,4 @@
 -- `put_rows`: the entries of the rows passed stand in the answer.
-use Prim.Native.Nat.{◌-◌}
 use mathlib.Core.List.{◌∷◌, ◌++◌}
 use native.Mathlib.Omega.{arith}
 use lib.ListN.{get_or}

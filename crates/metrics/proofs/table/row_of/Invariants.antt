@@ -1,5 +1,5 @@
 -- `row_of`: no row passed has the rating.
-use Prim.Native.Nat.{ℕ, ◌-◌, ◌≤◌, ◌<◌}
+use Prim.Native.Nat.{ℕ, ◌≤◌, ◌<◌}
 use mathlib.Core.Path.{◌≡◌}
 use mathlib.Core.Bool.{false}
 use lib.ListN.{get_or}
@@ -9,6 +9,3 @@ use Rattle.metrics.proofs.table.row_of.Given as goal
 
 abbrev pub invariant-loop-j : goal.invariant-loop-j
 invariant-loop-j l = (l.j ≤ l.m) × ((x : ℕ) → x < l.j → same_rating (rating_at l.register (get_or l.records x 0)) (rating_at l.register l.i) ≡ false)
-
-abbrev pub decreases-loop-j : goal.decreases-loop-j
-decreases-loop-j l = l.m - l.j

@@ -1,5 +1,4 @@
 -- `rows_end`: where the entries of the rows passed end.
-use Prim.Native.Nat.{◌-◌}
 use native.Mathlib.Omega.{arith}
 use Rattle.metrics.specs.ListingLaws.{sized_none, sized_small, sized_next, sized_all}
 use Rattle.metrics.proofs.table.rows_end.Goals as goal

@@ -1,10 +1,6 @@
 -- `rows_end`: where the entries of the rows passed end.
-use Prim.Native.Nat.{◌-◌}
 use Rattle.metrics.specs.ListingLaws.{Sized}
 use Rattle.metrics.proofs.table.rows_end.Given as goal
 
 abbrev pub invariant-loop-j : goal.invariant-loop-j
 invariant-loop-j l = Sized l.register l.m l.records l.j l.end
-
-abbrev pub decreases-loop-j : goal.decreases-loop-j
-decreases-loop-j l = l.m - l.j
