@@ -1,8 +1,10 @@
 pub mod Meaning
 pub mod StandingLaws
+pub mod Links
 pub mod Walk
 pub mod DoesLaws
 pub mod AlarmRecordLaws
 pub mod WalkLaws
+pub mod LinkLaws
 pub mod CountLaws
 pub mod FileLaws

@@ -62,14 +62,10 @@ fn flags(register: &[u8]) -> u8
     requires { T (sound register.now) }
     ensures { result ≡ by_bits 8 (is_flagged (alarms_on 0 register.now)) }
 {
-    let n = register::held(register, Chain::Active);
-    let mut at = register::first(register, Chain::Active);
     let mut found = 0;
-    for k in 0..n {
-        let alarm = register::payload(register, at);
-        let severity = record::severity(alarm);
-        found = found | flag(record::state(alarm), severity);
-        at = register::next(register, at);
+    for i in history::records(register, ACTIVE) {
+        let alarm = register::payload(register, i);
+        found |= flag(record::state(alarm), record::severity(alarm));
     }
     found
 }
@@ -106,7 +102,7 @@ fn highest(flags: u8, mask: u8) -> u8
 fn lit(highest: u8) -> u8
     ensures { result ≡ cond (eqb highest 0) 0 1 }
 {
-    if highest == 0 { 0 } else { 1 }
+    u8::from(highest != 0)
 }
 
 // Makes the block anew; or refuses, and the block is as it was, where that does not have eight bytes.

@@ -1,33 +1,28 @@
 -- `flags`: those of the records passed.
-use Prim.Native.Nat.{◌-◌}
-use native.Mathlib.Omega.{arith}
-use Rattle.register.specs.WalkLaws.{content_width}
-use Rattle.history.specs.WalkLaws.{reached_first, reached_fits}
+use mathlib.Core.Path.{◌∙◌}
+use Rattle.history.specs.LinkLaws.{ahead_fits, ahead_width}
 use Rattle.panel.specs.FlagLaws.{passed_none, passed_severity, passed_next, passed_all}
 use Rattle.panel.proofs.flags.Goals as goal
 
-pub loop-k-init : goal.loop-k-init
-loop-k-init c =
-    passed_none (reached_first _ c.requires 0 (omega arith) c.held-n.ensures c.first-at.ensures)
-
-pub loop-k-preserved : goal.loop-k-preserved
-loop-k-preserved c =
-    passed_next c.loop-k.invariant c.loop-k-test.true c.payload-alarm.ensures c.severity-severity.ensures c.state.ensures c.flag-found.ensures c.next-at.ensures
-
-pub returns : goal.returns
-returns c = passed_all c.loop-k.invariant (omega (arith, c.loop-k-test.false))
+pub loop-i-init : goal.loop-i-init
+loop-i-init c =
+    passed_none c.requires (c.into_iter-i-iterator.ensures.into_iter_gives ∙ c.records-i-items.ensures)
 
 pub payload-alarm-requires : goal.payload-alarm-requires
-payload-alarm-requires c = reached_fits c.loop-k.invariant.reached c.loop-k-test.true
-
-pub severity-severity-requires : goal.severity-severity-requires
-severity-severity-requires c = content_width _ _ (reached_fits c.loop-k.invariant.reached c.loop-k-test.true) c.payload-alarm.ensures
+payload-alarm-requires c = ahead_fits c.loop-i.invariant.ahead c.in-Some.ensures.steps
 
 pub state-requires : goal.state-requires
-state-requires c = content_width _ _ (reached_fits c.loop-k.invariant.reached c.loop-k-test.true) c.payload-alarm.ensures
+state-requires c = ahead_width c.loop-i.invariant.ahead c.in-Some.ensures.steps c.payload-alarm.ensures
+
+pub severity-requires : goal.severity-requires
+severity-requires c = ahead_width c.loop-i.invariant.ahead c.in-Some.ensures.steps c.payload-alarm.ensures
 
 pub flag-found-requires : goal.flag-found-requires
-flag-found-requires c = passed_severity c.loop-k.invariant c.loop-k-test.true c.payload-alarm.ensures c.severity-severity.ensures
+flag-found-requires c = passed_severity c.loop-i.invariant c.in-Some.ensures.steps c.payload-alarm.ensures c.severity.ensures
 
-pub next-at-requires : goal.next-at-requires
-next-at-requires c = reached_fits c.loop-k.invariant.reached c.loop-k-test.true
+pub loop-i-preserved : goal.loop-i-preserved
+loop-i-preserved c =
+    passed_next c.loop-i.invariant c.in-Some.ensures.steps c.payload-alarm.ensures c.severity.ensures c.state.ensures c.flag-found.ensures
+
+pub returns : goal.returns
+returns c = passed_all c.loop-i.invariant c.in-None.ensures.steps.0

@@ -2,5 +2,5 @@
 use Rattle.panel.specs.FlagLaws.{Passed}
 use Rattle.panel.proofs.flags.Given as goal
 
-abbrev pub invariant-loop-k : goal.invariant-loop-k
-invariant-loop-k l = Passed l.register l.n l.k l.at l.found
+abbrev pub invariant-loop-i : goal.invariant-loop-i
+invariant-loop-i l = Passed l.register l.i-iterator l.found
