@@ -6,6 +6,7 @@ use mathlib.Core.List.{List, [], ◌∷◌}
 use Rattle.std.proofs.Math.Bool.{true, false, cond}
 use native.Mathlib.Omega.{arith}
 use Rattle.std.proofs.Math.ListN.{length}
+use Rattle.std.specs.Int.{from_bool}
 use Rattle.definition.specs.Chain.{those}
 
 module _ {A : Type 0} (t : A → Bool) where
@@ -16,6 +17,24 @@ module _ {A : Type 0} (t : A → Bool) where
   pub those_miss : (a : A) (l : List A) → t a ≡ false → those t (a ∷ l) ≡ those t l
   unfolding those
   those_miss a l e = rw e
+
+  -- one more in front
+  pub those_count : (a : A) (l : List A) → length (those t (a ∷ l)) ≡ from_bool (t a) + length (those t l)
+  unfolding those
+  those_count a l = go (t a)
+    where
+      go : (y : Bool) → length (cond y (a ∷ those t l) (those t l)) ≡ from_bool y + length (those t l)
+      go true = omega arith
+      go false = omega arith
+
+  pub those_few : (l : List A) → length (those t l) ≤ length l
+  unfolding those
+  those_few [] = omega arith
+  those_few (a ∷ l) = go (t a) (those_few l)
+    where
+      go : (y : Bool) → length (those t l) ≤ length l → length (cond y (a ∷ those t l) (those t l)) ≤ length (a ∷ l)
+      go true h = omega arith
+      go false h = omega arith
 
   -- of the first k of l, n pass
   pub record Counted (l : List A) (k n : ℕ) : Type 0 where

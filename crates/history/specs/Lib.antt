@@ -5,6 +5,6 @@ pub mod Walk
 pub mod DoesLaws
 pub mod AlarmRecordLaws
 pub mod WalkLaws
-pub mod LinkLaws
 pub mod CountLaws
+pub mod LinkLaws
 pub mod FileLaws
