@@ -1,5 +1,5 @@
 -- What the code says of the active chain: its headline; its ratings, where they appear first, a table of them, and the entries in the answer.
-use Rattle.std.specs.Prelude.{ℕ, zero, suc, max, ◌+◌, ◌*◌, ◌≤◌, ◌<◌, ◌≡◌, List, [], ◌∷◌, ◌++◌, map, Bool, true, false, cond, eqb, length, take, drop, get_or, set}
+use Rattle.std.specs.Prelude.{ℕ, zero, suc, ◌+◌, ◌*◌, ◌≤◌, ◌<◌, ◌≡◌, List, [], ◌∷◌, ◌++◌, map, Bool, true, false, cond, eqb, length, take, drop, get_or, set, Option, None, Some}
 use Rattle.octets.specs.Bytes.{Bytes, at32, be32}
 use Rattle.definition.specs.Chain.{those}
 use Rattle.definition.specs.Key.{string}
@@ -18,15 +18,11 @@ pub record AtPlace (b : Bytes) (k i : ℕ) : Type 0 where
   pub reached : Reached b 0 (at32 b 16) k i
   pub within : k < at32 b 16
 
--- ---- the headline: 255 stands for no severity
-
--- the worse of two
-abbrev pub worse : ℕ → ℕ → ℕ
-worse v w = cond (eqb w 255) v (cond (eqb v 255) w (max v w))
+-- ---- the headline
 
 -- the severity v of an alarm in state x, and none where that is 3, suppressed
-abbrev pub shown : ℕ → ℕ → ℕ
-shown x v = cond (eqb x 3) 255 v
+abbrev pub shown : ℕ → ℕ → Option ℕ
+shown x v = cond (eqb x 3) None (Some v)
 
 -- ---- ratings
 

@@ -1,32 +1,28 @@
 -- `read`: the worst severity and impact of the records passed.
-use native.Mathlib.Omega.{arith}
-use Rattle.register.specs.WalkLaws.{content_width}
-use Rattle.history.specs.WalkLaws.{reached_first, reached_fits}
+use mathlib.Core.Path.{◌∙◌}
+use Rattle.history.specs.LinkLaws.{ahead_fits, ahead_width}
 use Rattle.metrics.specs.HeadlineLaws.{passed_none, passed_next, passed_all}
 use Rattle.metrics.proofs.headline.read.Goals as goal
 
-pub loop-k-init : goal.loop-k-init
-loop-k-init c =
-    passed_none c.requires (reached_first _ c.requires 0 (omega arith) c.held-n.ensures c.first-at.ensures)
+pub loop-i-init : goal.loop-i-init
+loop-i-init c =
+    passed_none c.requires (c.into_iter-i-iterator.ensures.into_iter_gives ∙ c.records-i-items.ensures)
 
-pub loop-k-preserved : goal.loop-k-preserved
-loop-k-preserved c =
-    passed_next c.loop-k.invariant c.loop-k-test.true c.payload-alarm.ensures c.severity-severity.ensures c.state.ensures c.shown-v.ensures c.worse-worst.ensures c.readiness.ensures
-    c.higher-impact.ensures c.next-at.ensures
+pub payload-alarm-requires : goal.payload-alarm-requires
+payload-alarm-requires c = ahead_fits c.loop-i.invariant.ahead c.in-Some.ensures.steps
+
+pub state-requires : goal.state-requires
+state-requires c = ahead_width c.loop-i.invariant.ahead c.in-Some.ensures.steps c.payload-alarm.ensures
+
+pub severity-requires : goal.severity-requires
+severity-requires c = ahead_width c.loop-i.invariant.ahead c.in-Some.ensures.steps c.payload-alarm.ensures
+
+pub loop-i-preserved : goal.loop-i-preserved
+loop-i-preserved c =
+    passed_next c.loop-i.invariant c.in-Some.ensures.steps c.payload-alarm.ensures c.severity.ensures c.state.ensures c.shown-severity.ensures c.max-worst.ensures c.readiness.ensures
+    c.max-impact.ensures
 
 pub returns : goal.returns
 returns c =
-    let p = passed_all c.loop-k.invariant (omega (arith, c.loop-k-test.false)) in
+    let p = passed_all c.loop-i.invariant c.in-None.ensures.steps.0 in
     record { worst_value = p.0; readiness_value = p.1 }
-
-pub payload-alarm-requires : goal.payload-alarm-requires
-payload-alarm-requires c = reached_fits c.loop-k.invariant.reached c.loop-k-test.true
-
-pub severity-severity-requires : goal.severity-severity-requires
-severity-severity-requires c = content_width _ _ (reached_fits c.loop-k.invariant.reached c.loop-k-test.true) c.payload-alarm.ensures
-
-pub state-requires : goal.state-requires
-state-requires c = content_width _ _ (reached_fits c.loop-k.invariant.reached c.loop-k-test.true) c.payload-alarm.ensures
-
-pub next-at-requires : goal.next-at-requires
-next-at-requires c = reached_fits c.loop-k.invariant.reached c.loop-k-test.true

@@ -2,5 +2,5 @@
 use Rattle.metrics.specs.HeadlineLaws.{Passed}
 use Rattle.metrics.proofs.headline.read.Given as goal
 
-abbrev pub invariant-loop-k : goal.invariant-loop-k
-invariant-loop-k l = Passed l.register l.n l.k l.at l.worst l.impact
+abbrev pub invariant-loop-i : goal.invariant-loop-i
+invariant-loop-i l = Passed l.register l.worst l.impact l.i-iterator
