@@ -9,6 +9,15 @@ use Rattle.std.proofs.Math.ListN.{length}
 use Rattle.std.specs.Int.{from_bool}
 use Rattle.definition.specs.Chain.{those}
 
+-- one more where a test holds
+pub more_if : (y : Bool) (n : ℕ) → n + from_bool y ≡ cond y (n + 1) n
+more_if true n = refl
+more_if false n = omega arith
+
+pub one_at_most : (y : Bool) → from_bool y ≤ 1
+one_at_most true = omega arith
+one_at_most false = omega arith
+
 module _ {A : Type 0} (t : A → Bool) where
   pub those_hit : (a : A) (l : List A) → t a ≡ true → those t (a ∷ l) ≡ a ∷ those t l
   unfolding those

@@ -72,6 +72,10 @@ row_ratings b m is = map (rating_at b) (take m is)
 abbrev pub AllFit : Bytes → ℕ → List ℕ → Type 0
 AllFit b m is = (j : ℕ) → j < m → Fits b (get_or is j 0)
 
+-- one more in each of their amounts still is a number of 32 bits
+abbrev pub AllSmall : ℕ → List ℕ → Type 0
+AllSmall m ns = (j : ℕ) → j < m → get_or ns j 0 < 4294967295
+
 -- a table made of k places, so that each of its amounts is k at most
 pub record Table (b : Bytes) (k m : ℕ) (is ns : List ℕ) : Type 0 where
   pub room : m ≤ most_rows
@@ -91,10 +95,13 @@ pub record CountedIn (ns : List ℕ) (m j : ℕ) (ns' : List ℕ) : Type 0 where
   pub row : j < m → ns' ≡ set ns j (get_or ns j 0 + 1)
   pub none : m ≤ j → ns' ≡ ns
 
--- row j's amount is one more, or record i becomes row m; then there are r rows
-pub record Noted (is ns : List ℕ) (m j i r : ℕ) (is' ns' : List ℕ) : Type 0 where
-  pub row : j < m → (r ≡ m) × (is' ≡ is) × (ns' ≡ set ns j (get_or ns j 0 + 1))
-  pub new : m ≤ j → (r ≡ m + 1) × (is' ≡ set is m i) × (ns' ≡ set ns m 1)
+-- of the row of record i's rating, which is row m where there is none: its amount is one more, or record i becomes row m, where there is room; then there are m' rows
+pub record Noted (b : Bytes) (i m : ℕ) (is ns : List ℕ) (m' : ℕ) (is' ns' : List ℕ) : Type 0 where
+  pub row : ℕ
+  pub found : Row b is m (rating_at b i) row
+  pub room : row < most_rows
+  pub counted : row < m → (m' ≡ m) × (is' ≡ is) × (ns' ≡ set ns row (get_or ns row 0 + 1))
+  pub new : m ≤ row → (m' ≡ m + 1) × (is' ≡ set is m i) × (ns' ≡ set ns m 1)
 
 -- of n places k are passed, the walk is at record `at`, and the rows are the tally of the places passed
 pub record Collected (b : Bytes) (n k at m : ℕ) (is ns : List ℕ) : Type 0 where

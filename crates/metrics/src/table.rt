@@ -2,170 +2,212 @@
 //
 // `collect` makes it of the chain's first places, as far as there is room for their ratings; `count_on` counts the
 // places behind them in the rows. A rating is compared with the rows one by one.
-ghost use Rattle.std.specs.Prelude.{◌≡◌, ◌+◌, ◌≤◌, ◌<◌, T, length, get_or};
+ghost use Rattle.std.specs.Prelude.{◌≡◌, true, false, ◌+◌, ◌≤◌, ◌<◌, T, length, get_or, IfSome};
+ghost use Rattle.std.specs.Option.{unwrap_or};
 ghost use Rattle.octets.specs.Bytes.{at32};
 ghost use Rattle.octets.specs.Put.{Put};
 ghost use Rattle.definition.specs.Sound.{sound};
-ghost use Rattle.metrics.specs.Meaning.{Fits, rating_at, most_rows, AllFit, Row, CountedIn, Noted, Collected, Tallied, row_ratings, row_entries, sizes};
+ghost use Rattle.metrics.specs.Meaning.{Fits, rating_at, most_rows, AllFit, AllSmall, Row, CountedIn, Noted, Collected, Tallied, row_ratings, row_entries, sizes};
 
 use super::rating;
 use model::Answer;
 use register::Chain;
 
 // The most rows.
-pub(crate) const ROOM: usize = 1024;
+const ROOM: usize = 1024;
 
-// How far a table goes: `rows` rows have the ratings of all places before `place`, at which record `record` stands.
-#[derive(Clone, Copy)]
-pub(crate) struct Covered {
+// The first `rows` of `records` and `amounts` are its rows: they have the ratings of all places before `place`, at which
+// record `at` stands.
+#[derive(Drop)]
+pub(crate) struct Table {
     pub(crate) rows: usize,
     pub(crate) place: u32,
-    pub(crate) record: u32,
+    pub(crate) at: u32,
+    records: [u32; ROOM],
+    amounts: [u32; ROOM],
 }
 
-// The row among the first m that has the rating of record i's alarm; m for none.
-pub(crate) fn row_of(register: &[u8], records: &[u32; ROOM], m: usize, i: u32) -> usize
-    requires { (m ≤ most_rows) × AllFit register.now m records.now × Fits register.now i }
-    ensures { Row register.now records.now m (rating_at register.now i) result }
-{
-    for j in 0..m {
-        if rating::same(register, records[j], i) {
-            return j;
+impl Table {
+    // A table that covers nothing.
+    pub(crate) fn new() -> Table
+        ensures { (result.rows ≡ 0)
+            × (length result.records ≡ most_rows)
+            × (length result.amounts ≡ most_rows) }
+    {
+        Table {
+            rows: 0,
+            place: 0,
+            at: 0,
+            records: [0; ROOM],
+            amounts: [0; ROOM],
         }
     }
-    m
-}
 
-// Adds one to the amount of row j, where that is one of the first m.
-fn count_in(amounts: &mut [u32; ROOM], m: usize, j: usize)
-    requires { (m ≤ most_rows) × (j < m → get_or amounts.old j 0 < 4294967295) }
-    ensures { CountedIn amounts.old m j amounts.new }
-{
-    if j < m {
-        let n = amounts[j];
-        amounts[j] = n + 1;
-    }
-}
-
-// Adds record i's alarm to the first m rows, by its row j: to that row's amount, or as row m. Gives how many there are
-// then.
-fn note(records: &mut [u32; ROOM], amounts: &mut [u32; ROOM], m: usize, j: usize, i: u32) -> usize
-    requires { (j ≤ m) × (m ≤ most_rows) × (j < most_rows) × (j < m → get_or amounts.old j 0 < 4294967295) }
-    ensures { Noted records.old amounts.old m j i result records.new amounts.new }
-{
-    if j < m {
-        count_in(amounts, m, j);
-        return m;
-    }
-    records[m] = i;
-    amounts[m] = 1;
-    m + 1
-}
-
-// Adds the active alarms to an empty table, as far as there is room for their ratings.
-pub(crate) fn collect(
-    register: &[u8],
-    records: &mut [u32; ROOM],
-    amounts: &mut [u32; ROOM],
-) -> Covered
-    requires { T (sound register.now) × (length records.old ≡ most_rows) × (length amounts.old ≡ most_rows) }
-    ensures { Collected
-        register.now
-        (at32 register.now 16)
-        result.place
-        result.record
-        result.rows
-        records.new
-        amounts.new }
-{
-    let n = register::held(register, Chain::Active);
-    let mut at = register::first(register, Chain::Active);
-    let mut m = 0;
-    for k in 0..n {
-        let j = row_of(register, records, m, at);
-        if j == ROOM {
-            return Covered {
-                rows: m,
-                place: k,
-                record: at,
-            };
+    // The row that has the rating of record i's alarm, if one has it.
+    pub(crate) fn row_of(&self, register: &[u8], i: u32) -> Option<usize>
+        requires { (self.now.rows ≤ most_rows)
+            × AllFit register.now self.now.rows self.now.records
+            × Fits register.now i }
+        ensures row { Row
+            register.now
+            self.now.records
+            self.now.rows
+            (rating_at register.now i)
+            (unwrap_or result self.now.rows) }
+        ensures within { IfSome result (λ j. j < self.now.rows) }
+    {
+        for j in 0..self.rows {
+            if rating::same(register, self.records[j], i) {
+                return Some(j);
+            }
         }
-        m = note(records, amounts, m, j, at);
-        at = register::next(register, at);
+        None
     }
-    Covered {
-        rows: m,
-        place: n,
-        record: at,
-    }
-}
 
-// Counts the alarms that the table does not cover in their rows; those whose rating no row has are left.
-pub(crate) fn count_on(
-    register: &[u8],
-    records: &[u32; ROOM],
-    amounts: &mut [u32; ROOM],
-    covered: Covered,
-)
-    requires { T (sound register.now)
-        × Collected
-        register.now
-        (at32 register.now 16)
-        covered.place
-        covered.record
-        covered.rows
-        records.now
-        amounts.old }
-    ensures { Tallied register.now covered.rows records.now amounts.new }
-{
-    let n = register::held(register, Chain::Active);
-    let mut at = covered.record;
-    for k in covered.place..n {
-        let j = row_of(register, records, covered.rows, at);
-        count_in(amounts, covered.rows, j);
-        at = register::next(register, at);
+    // Adds one to the amount of a row, if it is one.
+    fn count_in(&mut self, row: Option<usize>)
+        requires { (self.old.rows ≤ most_rows)
+            × AllSmall self.old.rows self.old.amounts
+            × IfSome row (λ j. j < self.old.rows) }
+        ensures counted { CountedIn
+            self.old.amounts
+            self.old.rows
+            (unwrap_or row self.old.rows)
+            self.new.amounts }
+        ensures same_rows { self.new.rows ≡ self.old.rows }
+        ensures same_place { self.new.place ≡ self.old.place }
+        ensures same_at { self.new.at ≡ self.old.at }
+        ensures same_records { self.new.records ≡ self.old.records }
+    {
+        if let Some(j) = row {
+            self.amounts[j] += 1;
+        }
     }
-}
 
-// Where the entries of m rows end in the answer.
-pub(crate) fn rows_end(register: &[u8], records: &[u32; ROOM], m: usize) -> usize
-    requires { (m ≤ most_rows) × AllFit register.now m records.now × (length records.now ≡ most_rows) }
-    ensures { result ≡ 16 + sizes (row_ratings register.now m records.now) }
-{
-    let mut end = Answer::HEAD;
-    for j in 0..m {
-        end += rating::ENTRY + rating::cause(register, records[j]).len();
+    // Adds record i's alarm: to the amount of its row, or as a row of its own. False where it has no row and none is left;
+    // then nothing changes.
+    fn note(&mut self, register: &[u8], i: u32) -> bool
+        requires { (self.old.rows ≤ most_rows)
+            × AllFit register.now self.old.rows self.old.records
+            × Fits register.now i
+            × AllSmall self.old.rows self.old.amounts }
+        ensures added { result ≡ true → Noted
+            register.now
+            i
+            self.old.rows
+            self.old.records
+            self.old.amounts
+            self.new.rows
+            self.new.records
+            self.new.amounts }
+        ensures left { result ≡ false → self.new ≡ self.old }
+        ensures same_place { self.new.place ≡ self.old.place }
+        ensures same_at { self.new.at ≡ self.old.at }
+    {
+        let row = self.row_of(register, i);
+        if row.is_some() {
+            self.count_in(row);
+            return true;
+        }
+        if self.rows == ROOM {
+            return false;
+        }
+        self.records[self.rows] = i;
+        self.amounts[self.rows] = 1;
+        self.rows += 1;
+        true
     }
-    end
-}
 
-// Puts the entries of m rows into the answer, behind its head.
-pub(crate) fn put_rows(
-    register: &[u8],
-    records: &[u32; ROOM],
-    amounts: &[u32; ROOM],
-    m: usize,
-    answer: &mut [u8],
-) -> usize
-    requires { Tallied register.now m records.now amounts.now
-        × (16 + length (row_entries register.now m records.now amounts.now) ≤ length answer.old) }
-    ensures { Put
-        answer.old
-        16
-        (row_entries register.now m records.now amounts.now)
-        result
-        answer.new }
-{
-    let mut end = Answer::HEAD;
-    for j in 0..m {
-        let i = records[j];
-        end = answers::put_count(
-            answer,
-            end,
-            rating::severity(register, i),
-            amounts[j],
-            rating::cause(register, i),
-        );
+    // Adds the active alarms to an empty table, as far as there is room for their ratings.
+    pub(crate) fn collect(&mut self, register: &[u8])
+        requires { T (sound register.now)
+            × (self.old.rows ≡ 0)
+            × (length self.old.records ≡ most_rows)
+            × (length self.old.amounts ≡ most_rows) }
+        ensures { Collected
+            register.now
+            (at32 register.now 16)
+            self.new.place
+            self.new.at
+            self.new.rows
+            self.new.records
+            self.new.amounts }
+    {
+        let n = register::held(register, ACTIVE);
+        self.at = register::first(register, ACTIVE);
+        for k in 0..n {
+            self.place = k;
+            let at = self.at;
+            if !self.note(register, at) {
+                return;
+            }
+            self.at = register::next(register, at);
+        }
+        self.place = n;
     }
-    end
+
+    // Counts the alarms that the table does not cover in their rows; those whose rating no row has are left.
+    pub(crate) fn count_on(&mut self, register: &[u8])
+        requires { T (sound register.now)
+            × Collected
+            register.now
+            (at32 register.now 16)
+            self.old.place
+            self.old.at
+            self.old.rows
+            self.old.records
+            self.old.amounts }
+        ensures counted { Tallied register.now self.new.rows self.new.records self.new.amounts }
+        ensures same_rows { self.new.rows ≡ self.old.rows }
+        ensures same_place { self.new.place ≡ self.old.place }
+        ensures same_at { self.new.at ≡ self.old.at }
+        ensures same_records { self.new.records ≡ self.old.records }
+    {
+        let n = register::held(register, ACTIVE);
+        let mut at = self.at;
+        for k in self.place..n {
+            let row = self.row_of(register, at);
+            self.count_in(row);
+            at = register::next(register, at);
+        }
+    }
+
+    // Where the entries of the rows end in the answer.
+    pub(crate) fn rows_end(&self, register: &[u8]) -> usize
+        requires { (self.now.rows ≤ most_rows)
+            × AllFit register.now self.now.rows self.now.records
+            × (length self.now.records ≡ most_rows) }
+        ensures { result ≡ 16 + sizes (row_ratings register.now self.now.rows self.now.records) }
+    {
+        let mut end = Answer::HEAD;
+        for j in 0..self.rows {
+            end += rating::ENTRY + rating::cause(register, self.records[j]).len();
+        }
+        end
+    }
+
+    // Puts the entries of the rows into the answer, behind its head.
+    pub(crate) fn put_rows(&self, register: &[u8], answer: &mut [u8]) -> usize
+        requires { Tallied register.now self.now.rows self.now.records self.now.amounts
+            × (16 + length (row_entries register.now self.now.rows self.now.records self.now.amounts) ≤ length answer.old) }
+        ensures { Put
+            answer.old
+            16
+            (row_entries register.now self.now.rows self.now.records self.now.amounts)
+            result
+            answer.new }
+    {
+        let mut end = Answer::HEAD;
+        for j in 0..self.rows {
+            let i = self.records[j];
+            end = answers::put_count(
+                answer,
+                end,
+                rating::severity(register, i),
+                self.amounts[j],
+                rating::cause(register, i),
+            );
+        }
+        end
+    }
 }

@@ -1,9 +1,10 @@
 -- `amount`: of the records passed, as many as were found have the rating.
-use mathlib.Core.Path.{sym}
+use Prim.Native.Nat.{ℕ, ◌+◌}
+use mathlib.Core.Path.{sym, ap, ◌∙◌}
 use native.Mathlib.Omega.{arith}
 use Rattle.definition.specs.Reports.{rating}
 use Rattle.history.specs.WalkLaws.{reached_most, reached_fits, reached_next, field_here, field_end}
-use Rattle.history.specs.CountLaws.{counted_next, counted_all}
+use Rattle.history.specs.CountLaws.{more_if, one_at_most, counted_next, counted_all}
 use Rattle.metrics.specs.Meaning.{ratings, rating_at}
 use Rattle.metrics.specs.FirstLaws.{counted_from}
 use Rattle.metrics.specs.RowLaws.{reached_as}
@@ -17,13 +18,13 @@ pub same-requires : goal.same-requires
 same-requires c =
     (reached_fits c.requires.1.reached c.requires.1.within, reached_fits c.loop-p.invariant.0 c.loop-p-test.true)
 
-pub plus_one-found-requires : goal.plus_one-found-requires
-plus_one-found-requires c =
-    omega (arith, c.loop-p-test.true, c.loop-p.invariant.1.few, reached_most c.loop-p.invariant.0)
+pub overflow_add-found : goal.overflow_add-found
+overflow_add-found c =
+    omega (arith, c.loop-p-test.true, c.loop-p.invariant.1.few, reached_most c.loop-p.invariant.0, c.from-found.ensures, one_at_most c.same.result)
 
 pub loop-p-preserved : goal.loop-p-preserved
 loop-p-preserved c =
-    (reached_next c.loop-p.invariant.0 c.loop-p-test.true c.next-at.ensures, counted_next c.loop-p.invariant.1 (field_here c.loop-p.invariant.0 c.loop-p-test.true rating) c.same.ensures c.plus_one-found.ensures)
+    (reached_next c.loop-p.invariant.0 c.loop-p-test.true c.next-at.ensures, counted_next c.loop-p.invariant.1 (field_here c.loop-p.invariant.0 c.loop-p-test.true rating) c.same.ensures (ap (λ (x : ℕ). c.loop-p.found + x) c.from-found.ensures ∙ more_if c.same.result c.loop-p.found))
 
 pub returns : goal.returns
 returns c =

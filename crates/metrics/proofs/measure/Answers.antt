@@ -1,7 +1,9 @@
 -- `measure`: the entries of the places passed, and where they end.
-use mathlib.Core.Path.{refl}
+use Prim.Native.Nat.{ℕ, ◌+◌}
+use mathlib.Core.Path.{refl, ap, ◌∙◌}
 use native.Mathlib.Omega.{arith}
 use Rattle.history.specs.WalkLaws.{reached_fits, reached_most}
+use Rattle.history.specs.CountLaws.{more_if, one_at_most}
 use Rattle.metrics.specs.RowLaws.{at_place}
 use Rattle.metrics.specs.ListingLaws.{measured_rows, measured_small, measured_next, measured_all}
 use Rattle.metrics.proofs.measure.Goals as goal
@@ -18,9 +20,9 @@ pub is_first-first-requires : goal.is_first-first-requires
 is_first-first-requires c =
     (c.requires.1, at_place c.held-n.ensures c.loop-k.invariant.reached c.loop-k-test.true, c.loop-k.invariant.passed)
 
-pub plus_one-entries-requires : goal.plus_one-entries-requires
-plus_one-entries-requires c =
-    omega (arith, c.loop-k.invariant.few, reached_most c.loop-k.invariant.reached, c.loop-k-test.true)
+pub overflow_add-entries : goal.overflow_add-entries
+overflow_add-entries c =
+    omega (arith, c.loop-k.invariant.few, reached_most c.loop-k.invariant.reached, c.loop-k-test.true, c.from-entries.ensures, one_at_most c.is_first-first.result)
 
 pub overflow_add-end : goal.overflow_add-end
 overflow_add-end c =
@@ -28,7 +30,7 @@ overflow_add-end c =
 
 pub loop-k-preserved : goal.loop-k-preserved
 loop-k-preserved c =
-    measured_next c.loop-k.invariant c.loop-k-test.true c.is_first-first.ensures c.entry_length-end.ensures c.plus_one-entries.ensures c.next-at.ensures
+    measured_next c.loop-k.invariant c.loop-k-test.true c.is_first-first.ensures c.entry_length-end.ensures (ap (λ (x : ℕ). c.loop-k.entries + x) c.from-entries.ensures ∙ more_if c.is_first-first.result c.loop-k.entries) c.next-at.ensures
 
 pub overflow_cast-entries : goal.overflow_cast-entries
 overflow_cast-entries c = omega (arith, c.requires.1.room)

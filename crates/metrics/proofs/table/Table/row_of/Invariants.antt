@@ -5,7 +5,7 @@ use mathlib.Core.Bool.{false}
 use lib.ListN.{get_or}
 use Rattle.definition.specs.Reports.{same_rating}
 use Rattle.metrics.specs.Meaning.{rating_at}
-use Rattle.metrics.proofs.table.row_of.Given as goal
+use Rattle.metrics.proofs.table.Table.row_of.Given as goal
 
 abbrev pub invariant-loop-j : goal.invariant-loop-j
-invariant-loop-j l = (l.j ≤ l.m) × ((x : ℕ) → x < l.j → same_rating (rating_at l.register (get_or l.records x 0)) (rating_at l.register l.i) ≡ false)
+invariant-loop-j l = (l.j ≤ l.self.rows) × ((x : ℕ) → x < l.j → same_rating (rating_at l.register (get_or l.self.records x 0)) (rating_at l.register l.i) ≡ false)

@@ -1,7 +1,7 @@
 -- `rows_end`: where the entries of the rows passed end.
 use native.Mathlib.Omega.{arith}
 use Rattle.metrics.specs.ListingLaws.{sized_none, sized_small, sized_next, sized_all}
-use Rattle.metrics.proofs.table.rows_end.Goals as goal
+use Rattle.metrics.proofs.table.Table.rows_end.Goals as goal
 
 pub cause-requires : goal.cause-requires
 cause-requires c =
@@ -25,9 +25,3 @@ returns c =
 
 pub loop-j-init : goal.loop-j-init
 loop-j-init c = sized_none
-
-pub offset_bounds-records-j : goal.offset_bounds-records-j
-offset_bounds-records-j c = omega (arith, c.loop-j-test.true, c.requires.0)
-
-pub bounds-records-j : goal.bounds-records-j
-bounds-records-j c = omega (arith, c.loop-j-test.true, c.requires.0)

@@ -2,7 +2,7 @@
 use mathlib.Core.Path.{sym, ◌∙◌}
 use native.Mathlib.Omega.{arith}
 use borrow.Author.Count.{below_more}
-use Rattle.metrics.proofs.table.row_of.Goals as goal
+use Rattle.metrics.proofs.table.Table.row_of.Goals as goal
 
 pub loop-j-init : goal.loop-j-init
 loop-j-init c = (omega arith, λ x h. absurd (omega arith))
@@ -13,7 +13,10 @@ same-requires c =
 
 pub returns-then-same : goal.returns-then-same
 returns-then-same c =
-    record { within = omega (arith, c.loop-j-test.true); before = c.loop-j.invariant.1; here = λ h. sym c.same.ensures ∙ c.if-same.true }
+    record {
+      row = record { within = omega (arith, c.loop-j-test.true); before = c.loop-j.invariant.1; here = λ h. sym c.same.ensures ∙ c.if-same.true };
+      within = c.loop-j-test.true;
+    }
 
 pub loop-j-preserved : goal.loop-j-preserved
 loop-j-preserved c =
@@ -21,10 +24,7 @@ loop-j-preserved c =
 
 pub returns : goal.returns
 returns c =
-    record { within = omega arith; before = λ x h. c.loop-j.invariant.1 x (omega (arith, c.loop-j-test.false)); here = λ h. absurd (omega arith) }
-
-pub offset_bounds-records-j : goal.offset_bounds-records-j
-offset_bounds-records-j c = omega (arith, c.loop-j-test.true, c.requires.0)
-
-pub bounds-records-j : goal.bounds-records-j
-bounds-records-j c = omega (arith, c.loop-j-test.true, c.requires.0)
+    record {
+      row = record { within = omega arith; before = λ x h. c.loop-j.invariant.1 x (omega (arith, c.loop-j-test.false)); here = λ h. absurd (omega arith) };
+      within = tt;
+    }

@@ -1,6 +1,0 @@
--- `collect`: the rows are the tally of the places passed.
-use Rattle.metrics.specs.Meaning.{Collected}
-use Rattle.metrics.proofs.table.collect.Given as goal
-
-abbrev pub invariant-loop-k : goal.invariant-loop-k
-invariant-loop-k l = Collected l.register l.n l.k l.at l.m l.records l.amounts
