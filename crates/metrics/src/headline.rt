@@ -48,7 +48,7 @@ pub(crate) fn read(register: &[u8]) -> Headline
 {
     let mut worst: Option<u8> = None;
     let mut impact = 0u8;
-    for i in history::records(register, ACTIVE) {
+    for i in history::records(register, Chain::Active) {
         let alarm = register::payload(register, i);
         let severity = shown(record::state(alarm), record::severity(alarm));
         worst = worst.max(severity);

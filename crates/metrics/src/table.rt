@@ -133,8 +133,8 @@ impl Table {
             self.new.records
             self.new.amounts }
     {
-        let n = register::held(register, ACTIVE);
-        self.at = register::first(register, ACTIVE);
+        let n = register::held(register, Chain::Active);
+        self.at = register::first(register, Chain::Active);
         for k in 0..n {
             self.place = k;
             let at = self.at;
@@ -163,7 +163,7 @@ impl Table {
         ensures same_at { self.new.at ≡ self.old.at }
         ensures same_records { self.new.records ≡ self.old.records }
     {
-        let n = register::held(register, ACTIVE);
+        let n = register::held(register, Chain::Active);
         let mut at = self.at;
         for k in self.place..n {
             let row = self.row_of(register, at);

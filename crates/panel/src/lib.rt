@@ -63,7 +63,7 @@ fn flags(register: &[u8]) -> u8
     ensures { result ≡ by_bits 8 (is_flagged (alarms_on 0 register.now)) }
 {
     let mut found = 0;
-    for i in history::records(register, ACTIVE) {
+    for i in history::records(register, Chain::Active) {
         let alarm = register::payload(register, i);
         found |= flag(record::state(alarm), record::severity(alarm));
     }
