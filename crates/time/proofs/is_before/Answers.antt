@@ -1,8 +1,10 @@
--- Adding the least time's bits brings times into the order of their numbers.
-use Rattle.std.proofs.Common.{ltb, ap₂}
+-- The order of the signed numbers is that of their bits, once the least time's are added.
+use Rattle.std.proofs.Common.{arith}
+use Rattle.std.proofs.lemmas.Int.{ints}
+use Rattle.std.proofs.lemmas.Bool.Decides.{nat_tests}
 use Rattle.definition.specs.Alarm.{before}
 use Rattle.time.proofs.is_before.Goals as goal
 
 pub returns : goal.returns
 unfolding before
-returns c = ap₂ ltb c.wrapping_add_u64.ensures.value c.wrapping_add_u64-2.ensures.value
+returns c = grind (arith, ints, nat_tests)
