@@ -1,3 +1,4 @@
 pub mod Meaning
+pub mod Code
 pub mod AnswerLaws
 pub mod EntryLaws

@@ -17,15 +17,20 @@ ghost use Rattle.definition.specs.Key.{string, hex};
 ghost use Rattle.definition.specs.Answer.{ClearWithoutActive, ActiveLimitExceeded, Summary, head, head_bytes, answer_bytes};
 ghost use Rattle.model.specs.Meaning.{cause_part, cause_within};
 ghost use Rattle.answers.specs.Meaning.{Answered, entry};
+ghost use Rattle.answers.specs.Code.{code_number};
 
 use model::{Answer, CauseSpan, Record};
 
+mod code;
+
+pub use code::Code;
+
 // A head: code, three zeros, item count, number.
-pub fn put_head(answer: &mut [u8], code: u8, count: u32, number: u64) -> usize
+pub fn put_head(answer: &mut [u8], code: Code, count: u32, number: u64) -> usize
     requires { 16 ≤ length answer.old }
-    ensures { Put answer.old 0 (head_bytes (head code count number)) result answer.new }
+    ensures { Put answer.old 0 (head_bytes (head (code_number code) count number)) result answer.new }
 {
-    octets::put_byte(answer, 0, code);
+    octets::put_byte(answer, 0, u8::from(code));
     octets::put_zeros(answer, 1, 3);
     octets::put32(answer, 4, count);
     octets::put64(answer, 8, number);
@@ -63,11 +68,11 @@ pub fn put_count(answer: &mut [u8], at: usize, severity: u8, amount: u32, cause:
 // ---- whole answers
 
 // An alarm: codes 1, 2, 6 and 7.
-pub fn put_alarm(answer: &mut [u8], code: u8, payload: &[u8]) -> usize
+pub fn put_alarm(answer: &mut [u8], code: Code, payload: &[u8]) -> usize
     requires { (1552 ≤ length answer.old) × (length payload.now ≡ payload_width) }
     ensures { Answered
         answer.old
-        (head code 1 0)
+        (head (code_number code) 1 0)
         (be32 0 ++ payload.now)
         result
         answer.new }
@@ -77,9 +82,9 @@ pub fn put_alarm(answer: &mut [u8], code: u8, payload: &[u8]) -> usize
 }
 
 // An id or a message: codes 3, 8, 9 and 10.
-pub fn put_text(answer: &mut [u8], code: u8, s: &[u8]) -> usize
+pub fn put_text(answer: &mut [u8], code: Code, s: &[u8]) -> usize
     requires { (20 + length s.now ≤ length answer.old) × (length s.now < 4294967296) }
-    ensures { Answered answer.old (head code 0 0) (string s.now) result answer.new }
+    ensures { Answered answer.old (head (code_number code) 0 0) (string s.now) result answer.new }
 {
     let n = put_head(answer, code, 0, 0);
     strings::put_string(answer, n, s)
@@ -90,7 +95,7 @@ pub fn put_number(answer: &mut [u8], n: u64) -> usize
     requires { 16 ≤ length answer.old }
     ensures { Answered answer.old (head 11 0 n) [] result answer.new }
 {
-    put_head(answer, 11, 0, n)
+    put_head(answer, Code::Report, 0, n)
 }
 
 // ---- a key, as codes 4 and 5 begin
@@ -99,11 +104,11 @@ pub fn put_number(answer: &mut [u8], n: u64) -> usize
 const HEX: usize = 2 * Record::KEY;
 
 // A head, and the key's digits.
-fn put_key(answer: &mut [u8], code: u8, number: u64, key: &[u8]) -> usize
+fn put_key(answer: &mut [u8], code: Code, number: u64, key: &[u8]) -> usize
     requires { (48 ≤ length answer.old) × (length key.now ≡ 16) }
     ensures { Answered
         answer.old
-        (head code 0 number)
+        (head (code_number code) 0 number)
         (hex key.now)
         result
         answer.new }
@@ -123,7 +128,7 @@ pub fn put_without(answer: &mut [u8], key: &[u8], call: &[u8], cause: CauseSpan)
         result
         answer.new }
 {
-    let n = put_key(answer, 4, 0, key);
+    let n = put_key(answer, Code::ClearWithoutActive, 0, key);
     strings::put_cause(answer, n, call, cause)
 }
 
@@ -137,7 +142,7 @@ pub fn put_limit(answer: &mut [u8], key: &[u8], n: u64) -> usize
         result
         answer.new }
 {
-    put_key(answer, 5, n, key)
+    put_key(answer, Code::ActiveLimitExceeded, n, key)
 }
 
 // ---- operation 11
@@ -176,7 +181,7 @@ pub fn put_summary(
         result
         answer.new }
 {
-    put_head(answer, 11, 0, active);
+    put_head(answer, Code::Report, 0, active);
     octets::put_byte(answer, SummaryAt::WORST, worst);
     octets::put_byte(answer, SummaryAt::READINESS, readiness);
     octets::put64(answer, SummaryAt::SUCCESSES, successes);

@@ -21,6 +21,7 @@ ghost use Rattle.history.specs.Meaning.{OnActive, ActiveRoom};
 ghost use Rattle.reply.specs.Meaning.{Replies};
 ghost use Rattle.raising.specs.Meaning.{Ready, updates_at, raises_new};
 
+use answers::Code;
 use changes::News;
 use model::{Record, Refusal, Span};
 use raise_fields::Raise;
@@ -58,7 +59,7 @@ fn update(
     state::load(&mut p, register, i);
     changes::updated_by(&mut p, call, news);
     history::revise(register, i, ends, &p);
-    answers::put_alarm(answer, 2, &p)
+    answers::put_alarm(answer, Code::Updated, &p)
 }
 
 // Whether an active alarm has the id.
@@ -96,7 +97,7 @@ fn insert(
     let mut p = [0u8; Record::PAYLOAD];
     build::alarm_into(&mut p, key, call, r);
     history::store(register, ends, &p);
-    Ok(answers::put_alarm(answer, 1, &p))
+    Ok(answers::put_alarm(answer, Code::Raised, &p))
 }
 
 // No active alarm has the key.

@@ -18,6 +18,7 @@ ghost use Rattle.definition.specs.Sound.{station, sound};
 ghost use Rattle.definition.specs.Clauses.Moves.{CanRelease};
 ghost use Rattle.definition.specs.Clauses.Does.{Answers};
 ghost use Rattle.octets.specs.Put.{Put};
+ghost use Rattle.answers.specs.Code.{code_number};
 ghost use Rattle.model.specs.Meaning.{within, action_of, deed_of};
 ghost use Rattle.raise_fields.specs.Meaning.{clear_value};
 ghost use Rattle.action_fields.specs.Meaning.{plain_value};
@@ -26,6 +27,7 @@ ghost use Rattle.history.specs.Meaning.{IsAlarm, Newest, OnActive};
 ghost use Rattle.state.specs.Meaning.{Authorised, Clearing, EndsInTime, action_code, cleared_at};
 
 use action_fields::Plain;
+use answers::Code;
 use model::{Action, Deed, Record};
 use raise_fields::Clear;
 use register::{Ends, Found};
@@ -41,12 +43,12 @@ pub fn load(p: &mut [u8], register: &[u8], i: u32)
 
 // ---- 3 acknowledge, 4 suppress
 
-fn code_of(action: Action) -> u8
-    ensures { result ≡ action_code (action_of action) }
+fn code_of(action: Action) -> Code
+    ensures { code_number result ≡ action_code (action_of action) }
 {
     match action {
-        Action::Acknowledge => 7,
-        Action::Suppress => 6,
+        Action::Acknowledge => Code::Acknowledged,
+        Action::Suppress => Code::Suppressed,
     }
 }
 
@@ -88,8 +90,16 @@ fn not_authorized(answer: &mut [u8], action: Action) -> usize
         answer.new }
 {
     match action {
-        Action::Acknowledge => answers::put_text(answer, 8, b"acknowledge not authorized"),
-        Action::Suppress => answers::put_text(answer, 8, b"suppress not authorized"),
+        Action::Acknowledge => answers::put_text(
+            answer,
+            Code::Unauthorized,
+            b"acknowledge not authorized",
+        ),
+        Action::Suppress => answers::put_text(
+            answer,
+            Code::Unauthorized,
+            b"suppress not authorized",
+        ),
     }
 }
 
@@ -124,7 +134,7 @@ fn plain_on(
             time,
             answer,
         ),
-        None => answers::put_text(answer, 10, id),
+        None => answers::put_text(answer, Code::NotFound, id),
     }
 }
 
@@ -187,7 +197,7 @@ fn clear_found(
     load(&mut p, register, i);
     changes::cleared_by(&mut p, time);
     history::retire(register, i, previous, ends, &p);
-    answers::put_text(answer, 3, record::id(&p))
+    answers::put_text(answer, Code::Cleared, record::id(&p))
 }
 
 // A clear whose key was looked for, in whatever way.
