@@ -14,19 +14,24 @@ ghost use Rattle.definition.specs.Record.{read_alarm};
 // Severity 5 is critical.
 const CRITICAL: u8 = 5;
 
-// Whether a cause is one of the nine, of security and of integrity. All are compared: most differ in their length.
+// The nine causes of security and of integrity.
+const GUARDED: [&[u8]; 9] = [
+    b"authorization-policy-invalid",
+    b"identity-unavailable",
+    b"certificate-expired",
+    b"key-unavailable",
+    b"storage-corruption",
+    b"audit-chain-invalid",
+    b"li-delivery-failed",
+    b"privacy-policy-violation",
+    b"security-break-glass",
+];
+
+// Whether a cause is one of the nine.
 fn is_guarded(cause: &[u8]) -> bool
     ensures { result ≡ one_of guarded cause.now }
 {
-    octets::equal(b"authorization-policy-invalid", cause)
-        | octets::equal(b"identity-unavailable", cause)
-        | octets::equal(b"certificate-expired", cause)
-        | octets::equal(b"key-unavailable", cause)
-        | octets::equal(b"storage-corruption", cause)
-        | octets::equal(b"audit-chain-invalid", cause)
-        | octets::equal(b"li-delivery-failed", cause)
-        | octets::equal(b"privacy-policy-violation", cause)
-        | octets::equal(b"security-break-glass", cause)
+    GUARDED.iter().any(|name| octets::equal(name, cause))
 }
 
 // Whether the alarm in a payload is critical or of one of the nine causes.

@@ -1,26 +1,18 @@
--- `is_guarded`: the tests joined from left to right.
-use mathlib.Core.Path.{◌≡◌, refl, sym}
-use mathlib.Core.Bool.{Bool, true, false, ◌||◌}
-use mathlib.Core.List.{List, [], ◌∷◌}
+-- `is_guarded`: the names are compared one after the other.
+use Rattle.std.proofs.Common.{◌≡◌, rules, ◌∙◌, refl}
+use Rattle.std.proofs.lemmas.Iterator.{YieldsList-from_slice}
+use Rattle.std.proofs.lemmas.Iterator.Search.{any_from_yields_List}
+use Rattle.std.specs.List.{list_any}
+use Rattle.std.specs.Slice.Iter.{iter_rest}
+use borrow.Author.Tests.{tests}
+use denote.Ref.{Bor}
 use Rattle.octets.specs.Bytes.{Bytes, same}
-use Rattle.definition.specs.Alarm.{guarded}
 use Rattle.definition.specs.Cause.{one_of}
 use Rattle.security.proofs.is_guarded.Goals as goal
 
--- the texts are compared one after the other; r is what was found before
-abbrev joined : Bool → List Bytes → Bytes → Bool
-joined r [] s = r
-joined r (n ∷ ns) s = joined (r || same n s) ns s
-
-joined_one : (r : Bool) (ns : List Bytes) (s : Bytes) → joined r ns s ≡ r || one_of ns s
-unfolding one_of
-joined_one true [] s = refl
-joined_one false [] s = refl
-joined_one true (n ∷ ns) s = joined_one true ns s
-joined_one false (n ∷ ns) s = joined_one (same n s) ns s
-
-one_joined : (s : Bytes) → one_of guarded s ≡ joined false guarded s
-one_joined s = sym (joined_one false guarded s)
-
 pub returns : goal.returns
-returns c = rw one_joined cc
+unfolding one_of
+returns c =
+    let found : c.any.result ≡ list_any (λ (b : Bor Bytes). same b.now c.args.cause.now) (iter_rest c.iter.result) =
+    any_from_yields_List {all = iter_rest c.iter.result} (λ (b : Bor Bytes). same b.now c.args.cause.now) _ _ _ c.any.ensures.ran (YieldsList-from_slice _ refl) (λ x b q k. search (rules, tests)) in
+    found ∙ rw c.iter.ensures.rest
