@@ -89,7 +89,8 @@ fn ahead(s: &[u8]) -> Option<usize>
     character(s)
 }
 
-// Whether s is a run of characters, UTF8-octets = *( UTF8-char ).
+// Whether s is a run of characters, UTF8-octets = *( UTF8-char ). It is called, so that what counts is small enough to be inlined.
+#[inline(never)]
 fn is_run(s: &[u8]) -> bool
     ensures { result ≡ utf8 s.now }
 {
@@ -100,11 +101,16 @@ fn is_run(s: &[u8]) -> bool
     rest.is_empty()
 }
 
-// How many bytes of s are no tails: in a run each character has one of them, its first.
+// How many bytes of s are no tails: in a run each character has one of them, its first. A loop with one way out, of which LLVM takes many
+// bytes at a time.
 fn leads(s: &[u8]) -> usize
     ensures { result ≡ leads_in s.now }
 {
-    s.iter().filter(|b| !is_tail(**b)).count()
+    let mut n = 0;
+    for b in s {
+        n += usize::from(!is_tail(*b));
+    }
+    n
 }
 
 // How many code points s has, if it is well formed, by its characters alone. They are counted by a loop of their own, and
