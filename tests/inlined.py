@@ -14,7 +14,7 @@ QUICK = {"record_check::Payload::string_at", "record_check::Payload::option_at",
          "record_check::ruler::Ruler::is_plain", "record_check::ruler::is_clear"}
 OTHERWISE = "record_check::Payload::any_string_at"
 # What answers the number of code points: in a caller that drops the number LLVM leaves the counting out, where these stand in the caller.
-COUNTING = {"utf8::check", "utf8::check_run", "utf8::form_of"}
+COUNTING = {"utf8::check", "utf8::check_run"}
 DECIDING = "utf8::is_run"
 
 

@@ -99,7 +99,7 @@ pub(crate) fn name(s: &[u8]) -> Option<usize>
     }
 }
 
-// Whether s is one of the names, which is asked of every record at each call. The place, which `name` gives, would cost a call and branches
+// Whether s is one of the names, which is asked of every record at each call. The place, which `name` gives, would cost a call and a choice
 // among the names of one length, some 3 to 10 ns a record.
 pub(crate) fn is_one(s: &[u8]) -> bool
     ensures { result ≡ one_of names s.now }
