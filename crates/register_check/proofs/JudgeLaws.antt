@@ -1,5 +1,5 @@
 -- What the header and the walks of the four chains say of soundness.
-use Rattle.std.specs.Prelude.{ℕ, ◌+◌, ◌*◌, ◌≤◌, ◌<◌, ◌≡◌, refl, Bool, ◌&&◌, T, Option, Some, None, leb, length, take, drop}
+use Rattle.std.specs.Prelude.{ℕ, ◌+◌, ◌*◌, ◌≤◌, ◌≡◌, refl, Bool, ◌&&◌, T, Some, None, leb, length, take, drop}
 use Rattle.std.proofs.Common.{sym, ap, ◌∙◌, subst, arith, le→leb}
 use Rattle.std.proofs.Math.Bool.{true, false}
 use mathlib.Core.Path.{subst₃}

@@ -1,6 +1,5 @@
 -- At each turn the records passed are of the chain, the rest of the way decides, and the next record is known.
 use mathlib.Core.Path.{◌∙◌, sym, ap}
-use Prim.Native.Nat.{◌-◌}
 use borrow.Author.Rules.{rules}
 use Rattle.definition.proofs.Laws.Book.LinkLoops.{went_zero, went_past}
 use Rattle.register.specs.WalkLaws.{content_width}
