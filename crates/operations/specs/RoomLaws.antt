@@ -62,6 +62,6 @@ module _ (n : ℕ) (y : Reply) (b b' a a' : Bytes) where
   policy_steps d p w = rw (policy_asks d p) w
 
 -- what the parser refused stays refused
-pub stays_refused : (k n : ℕ) (b a : Bytes) → Refuses (with_room (CallValue.refused k) n) b b a a k
-unfolding in_length ◌>>=◌
+pub stays_refused : (k n : ℕ) (b a : Bytes) → Refuses (perform (CallValue.refused k) n) b b a a k
+unfolding perform in_length ◌>>=◌
 stays_refused k n b a = record { stops = refl; register = refl; answer = refl }

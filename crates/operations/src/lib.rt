@@ -84,7 +84,6 @@ fn asks_record(parsed: Parsed) -> bool
         Parsed::Summary => true,
         Parsed::TakeAudit(_) => false,
         Parsed::Lift(_) => true,
-        Parsed::Refused(_) => false,
     }
 }
 
@@ -126,7 +125,6 @@ fn dispatch(
         Parsed::Summary => Ok(metrics::summary(register, answer)),
         Parsed::TakeAudit(n) => audit_log::take_audit(register, n, answer),
         Parsed::Lift(cutoff) => Ok(expiry::lift(register, ends, cutoff, answer)),
-        Parsed::Refused(k) => Reply::Refused(k as u32),
     }
 }
 

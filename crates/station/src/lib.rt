@@ -12,7 +12,7 @@ ghost use Rattle.definition.specs.Panel.{look, write, PanelReturns};
 ghost use Rattle.panel.specs.Meaning.{call_of};
 ghost use Rattle.reply.specs.Meaning.{number_in, length_in};
 
-use model::Record;
+use model::{Record, Refusal};
 use panel::PanelCall;
 use reply::Reply;
 
@@ -27,10 +27,11 @@ fn step(register: &mut [u8], call: &[u8], answer: &mut [u8]) -> Reply
         answer.new
         register.new }
 {
-    match register_check::check(register) {
-        Some(ends) => operations::perform(register, ends, call, call::parse(call), answer),
-        None => Reply::Refused(22),
-    }
+    let Some(ends) = register_check::check(register) else {
+        return Err(Refusal::Unsound);
+    };
+    let parsed = call::parse(call)?;
+    operations::perform(register, ends, call, parsed, answer)
 }
 
 // Opens a register with these limits. Returns 0, 20 or 21; the length is 0.
@@ -43,8 +44,7 @@ pub fn alarm_open(
 ) -> u32
     ensures { OpenReturns active history audit register.old result length.new register.new }
 {
-    *length = 0;
-    Record::open(register, active, history, audit)
+    reply::tell_done(Record::open(register, active, history, audit), length)
 }
 
 // Steps a register by a call. Returns 0 and the answer's length, or a refusal's number and 0.
@@ -64,12 +64,18 @@ pub fn alarm_step(register: &mut [u8], call: &[u8], answer: &mut [u8], length: &
 // ---- M-102: the panel block
 
 // 22 comes first, before the block is looked at.
-fn show(register: &[u8], block: &mut [u8], call: PanelCall) -> u32
-    ensures { PanelReturns register.now block.old (call_of call) result 0 block.new }
+fn show(register: &[u8], block: &mut [u8], call: PanelCall) -> Result<(), Refusal>
+    ensures { PanelReturns
+        register.now
+        block.old
+        (call_of call)
+        (number_in result)
+        0
+        block.new }
 {
     match register_check::check(register) {
         Some(_) => panel::show(register, block, call),
-        None => 22,
+        None => Err(Refusal::Unsound),
     }
 }
 
@@ -83,8 +89,7 @@ pub fn alarm_panel_look(register: &[u8], block: &mut [u8], length: &mut u64) -> 
         length.new
         block.new }
 {
-    *length = 0;
-    show(register, block, PanelCall::Look)
+    reply::tell_done(show(register, block, PanelCall::Look), length)
 }
 
 // Writes one byte of the panel block, of which the mask alone takes it, and makes the block anew. Returns as a look.
@@ -103,6 +108,5 @@ pub fn alarm_panel_write(
         length.new
         block.new }
 {
-    *length = 0;
-    show(register, block, PanelCall::Write(at, value))
+    reply::tell_done(show(register, block, PanelCall::Write(at, value)), length)
 }

@@ -12,11 +12,11 @@ use Rattle.call.specs.declared.Parsed.{Parsed}
 use Rattle.call.specs.Meaning.{meaning}
 use Rattle.history.specs.StandingLaws.{standing_newest}
 use Rattle.reply.specs.Meaning.{Reply}
-use Rattle.std.specs.Prelude.{Ok, Err}
+use Rattle.std.specs.Prelude.{Ok}
 use Rattle.reply.specs.Meaning.{Replies}
 use Rattle.operations.specs.Meaning.{Called, HasRoom, with_room}
 use Rattle.register.specs.declared.Ends.{Ends}
-use Rattle.operations.specs.RoomLaws.{plain_asks, policy_asks, plain_steps, policy_steps, stays_refused}
+use Rattle.operations.specs.RoomLaws.{plain_asks, policy_asks, plain_steps, policy_steps}
 use Rattle.operations.proofs.dispatch.Goals as goal
 
 -- what is asked, as the arm has the call
@@ -115,7 +115,3 @@ returns-in-TakeAudit c =
 pub returns-in-Lift : goal.returns-in-Lift
 returns-in-Lift c =
     arm c.args.call.now c.args.register.now c.args.answer.now c.in-Lift.is (Ok c.lift.result) _ _ c.lift.ensures
-
-pub returns-in-Refused : goal.returns-in-Refused
-returns-in-Refused c =
-    arm c.args.call.now c.args.register.now c.args.answer.now c.in-Refused.is (Err _) _ _ (stays_refused _ _ _ _)
