@@ -21,7 +21,10 @@ ghost use Rattle.expiry.specs.Sweep.{takes, step_of, kept_by, Swept, Passes};
 use model::Record;
 use register::{Chain, Ends};
 
-// What a sweep does to the alarms that it takes.
+// The state of a suppressed alarm.
+const SUPPRESSED: u8 = 3;
+
+// What a sweep does to the alarms that it takes. An enum and no trait: the laws of a sweep (specs/SweepLaws.antt) tell the two rounds apart.
 #[derive(Clone, Copy)]
 enum Round {
     Expire,
@@ -53,7 +56,7 @@ fn is_over(register: &[u8], i: u32, cutoff: u64) -> bool
     ensures { result ≡ is_over cutoff (alarm_at register.now i) }
 {
     let p = register::payload(register, i);
-    (record::state(p) == 3) & has_ended(record::end(p), cutoff)
+    record::state(p) == SUPPRESSED && has_ended(record::end(p), cutoff)
 }
 
 fn is_taken(register: &[u8], i: u32, round: Round, cutoff: u64) -> bool
@@ -140,24 +143,17 @@ fn pass(register: &mut [u8], at: u32, s: Stand, round: Round, cutoff: u64) -> St
         × (s.taken < 4294967295) }
     ensures { Passes round cutoff register.old register.new at s result }
 {
-    let ends = s.ends;
-    if is_taken(register, at, round, cutoff) {
-        let newest = take_at(register, at, s.kept, ends, round, cutoff);
-        let after = Ends {
-            active: ends.active,
-            history: newest,
-            audit: ends.audit,
-        };
-        return Stand {
-            ends: after,
-            kept: kept_by(round, s.kept, at),
-            taken: s.taken + 1,
-        };
+    if !is_taken(register, at, round, cutoff) {
+        return Stand { kept: at, ..s };
     }
+    let newest = take_at(register, at, s.kept, s.ends, round, cutoff);
     Stand {
-        ends: ends,
-        kept: at,
-        taken: s.taken,
+        ends: Ends {
+            history: newest,
+            ..s.ends
+        },
+        kept: kept_by(round, s.kept, at),
+        taken: s.taken + 1,
     }
 }
 
@@ -169,11 +165,11 @@ fn sweep(register: &mut [u8], ends: Ends, round: Round, cutoff: u64) -> u32
     let n = register::held(register, Chain::Active);
     let mut at = register::first(register, Chain::Active);
     let mut s = Stand {
-        ends: ends,
+        ends,
         kept: 0,
         taken: 0,
     };
-    for k in 0..n {
+    for _k in 0..n {
         let next = register::next(register, at);
         s = pass(register, at, s, round, cutoff);
         at = next;

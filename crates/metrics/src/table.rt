@@ -165,7 +165,7 @@ impl Table {
     {
         let n = register::held(register, Chain::Active);
         let mut at = self.at;
-        for k in self.place..n {
+        for _k in self.place..n {
             let row = self.row_of(register, at);
             self.count_in(row);
             at = register::next(register, at);

@@ -75,13 +75,10 @@ fn mask_of(block: &[u8], call: PanelCall) -> u8
     requires { length block.now ≡ 8 }
     ensures { result ≡ mask_of (call_of call) block.now }
 {
-    let PanelCall::Write(at, value) = call else {
-        return block[PanelAt::MASK];
-    };
-    if at == MASK_BYTE {
-        return value;
+    match call {
+        PanelCall::Write(MASK_BYTE, value) => value,
+        _ => block[PanelAt::MASK],
     }
-    block[PanelAt::MASK]
 }
 
 // A mask without its bits 6 and 7.
@@ -95,7 +92,7 @@ fn kept(mask: u8) -> u8
 fn highest(flags: u8, mask: u8) -> u8
     ensures { result ≡ highest_bit 8 (is_set (bit_and flags mask)) }
 {
-    (8 - u8::leading_zeros(flags & mask)) as u8
+    (8 - (flags & mask).leading_zeros()) as u8
 }
 
 // 1 where a severity waits, else 0.

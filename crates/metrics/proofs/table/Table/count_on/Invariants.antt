@@ -5,6 +5,6 @@ use Rattle.metrics.proofs.table.Table.count_on.Given as goal
 
 abbrev pub invariant-loop-k : goal.invariant-loop-k
 invariant-loop-k l =
-    Counting l.register l.n l.k l.at l.self.rows l.self.records l.self.amounts
+    Counting l.register l.n l._k l.at l.self.rows l.self.records l.self.amounts
     × (l.self.rows ≡ l.initial.self.rows) × (l.self.place ≡ l.initial.self.place) × (l.self.at ≡ l.initial.self.at)
     × (l.self.records ≡ l.initial.self.records)
