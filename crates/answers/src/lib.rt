@@ -12,14 +12,13 @@
 ghost use Rattle.std.specs.Prelude.{◌≡◌, [], ◌++◌, ◌+◌, ◌≤◌, ◌<◌, length};
 ghost use Rattle.octets.specs.Bytes.{be32};
 ghost use Rattle.octets.specs.Put.{Put};
-ghost use Rattle.definition.specs.Book.{payload_width};
 ghost use Rattle.definition.specs.Key.{string, hex};
 ghost use Rattle.definition.specs.Answer.{ClearWithoutActive, ActiveLimitExceeded, Summary, head, head_bytes, answer_bytes};
 ghost use Rattle.model.specs.Meaning.{cause_part, cause_within};
-ghost use Rattle.answers.specs.Meaning.{Answered, entry};
+ghost use Rattle.answers.specs.Meaning.{Answered, entry, totals_of};
 ghost use Rattle.answers.specs.Code.{code_number};
 
-use model::{Answer, CauseSpan, Record};
+use model::{Answer, CauseSpan, Key, Payload, Record};
 
 mod code;
 
@@ -38,8 +37,8 @@ pub fn put_head(answer: &mut [u8], code: Code, count: u32, number: u64) -> usize
 }
 
 // A record, its next index zero.
-pub fn put_record(answer: &mut [u8], at: usize, payload: &[u8]) -> usize
-    requires { (at + 1536 ≤ length answer.old) × (length payload.now ≡ payload_width) }
+pub fn put_record(answer: &mut [u8], at: usize, payload: &Payload) -> usize
+    requires { at + 1536 ≤ length answer.old }
     ensures { Put answer.old at (be32 0 ++ payload.now) result answer.new }
 {
     octets::put32(answer, at, 0);
@@ -68,8 +67,8 @@ pub fn put_count(answer: &mut [u8], at: usize, severity: u8, amount: u32, cause:
 // ---- whole answers
 
 // An alarm: codes 1, 2, 6 and 7.
-pub fn put_alarm(answer: &mut [u8], code: Code, payload: &[u8]) -> usize
-    requires { (1552 ≤ length answer.old) × (length payload.now ≡ payload_width) }
+pub fn put_alarm(answer: &mut [u8], code: Code, payload: &Payload) -> usize
+    requires { 1552 ≤ length answer.old }
     ensures { Answered
         answer.old
         (head (code_number code) 1 0)
@@ -104,8 +103,8 @@ pub fn put_number(answer: &mut [u8], n: u64) -> usize
 const HEX: usize = 2 * Record::KEY;
 
 // A head, and the key's digits.
-fn put_key(answer: &mut [u8], code: Code, number: u64, key: &[u8]) -> usize
-    requires { (48 ≤ length answer.old) × (length key.now ≡ 16) }
+fn put_key(answer: &mut [u8], code: Code, number: u64, key: &Key) -> usize
+    requires { 48 ≤ length answer.old }
     ensures { Answered
         answer.old
         (head (code_number code) 0 number)
@@ -119,8 +118,8 @@ fn put_key(answer: &mut [u8], code: Code, number: u64, key: &[u8]) -> usize
 }
 
 // A clear that found no active alarm: its key, and its cause in the stored form.
-pub fn put_without(answer: &mut [u8], key: &[u8], call: &[u8], cause: CauseSpan) -> usize
-    requires { (148 ≤ length answer.old) × (length key.now ≡ 16) × cause_within call.now cause }
+pub fn put_without(answer: &mut [u8], key: &Key, call: &[u8], cause: CauseSpan) -> usize
+    requires { (148 ≤ length answer.old) × cause_within call.now cause }
     ensures { Put
         answer.old
         0
@@ -133,8 +132,8 @@ pub fn put_without(answer: &mut [u8], key: &[u8], call: &[u8], cause: CauseSpan)
 }
 
 // A raise that found the active chain full: its key, and the limit of that chain.
-pub fn put_limit(answer: &mut [u8], key: &[u8], n: u64) -> usize
-    requires { (48 ≤ length answer.old) × (length key.now ≡ 16) }
+pub fn put_limit(answer: &mut [u8], key: &Key, n: u64) -> usize
+    requires { 48 ≤ length answer.old }
     ensures { Put
         answer.old
         0
@@ -163,28 +162,29 @@ impl SummaryAt {
     const END: usize = Self::FAILURES + 8;
 }
 
-pub fn put_summary(
-    answer: &mut [u8],
-    active: u64,
-    worst: u8,
-    readiness: u8,
-    successes: u64,
-    failures: u64,
-) -> usize
+// How many alarms are active, their headline, and the audit counters.
+#[derive(Clone, Copy)]
+pub struct Totals {
+    pub active: u64,
+    pub worst: u8,
+    pub readiness: u8,
+    pub successes: u64,
+    pub failures: u64,
+}
+
+pub fn put_summary(answer: &mut [u8], totals: Totals) -> usize
     requires { 34 ≤ length answer.old }
     ensures { Put
         answer.old
         0
-        (answer_bytes
-        (Summary
-        (record { active = active; worst = worst; readiness = readiness; successes = successes; failures = failures })))
+        (answer_bytes (Summary (totals_of totals)))
         result
         answer.new }
 {
-    put_head(answer, Code::Report, 0, active);
-    octets::put_byte(answer, SummaryAt::WORST, worst);
-    octets::put_byte(answer, SummaryAt::READINESS, readiness);
-    octets::put64(answer, SummaryAt::SUCCESSES, successes);
-    octets::put64(answer, SummaryAt::FAILURES, failures);
+    put_head(answer, Code::Report, 0, totals.active);
+    octets::put_byte(answer, SummaryAt::WORST, totals.worst);
+    octets::put_byte(answer, SummaryAt::READINESS, totals.readiness);
+    octets::put64(answer, SummaryAt::SUCCESSES, totals.successes);
+    octets::put64(answer, SummaryAt::FAILURES, totals.failures);
     SummaryAt::END
 }

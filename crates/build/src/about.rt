@@ -1,19 +1,18 @@
 // The cause and the affected object of an alarm, from the places where they stand in a call.
-ghost use Rattle.std.specs.Prelude.{◌≡◌, length};
+ghost use Rattle.std.specs.Prelude.{◌≡◌};
 ghost use Rattle.octets.specs.Bytes.{splice};
 ghost use Rattle.definition.specs.Limits.{short_limit};
-ghost use Rattle.definition.specs.Book.{payload_width};
 ghost use Rattle.definition.specs.Record.{cause_slot, object_slot};
 ghost use Rattle.model.specs.Meaning.{cause_part, object_value, within, opt_within, cause_within, object_within};
 ghost use Rattle.build.specs.Stretch.{pair_of, single_of, store_of};
 
 use super::slots;
-use model::{AffectedObject, CauseSpan, Prefix, Record, Span};
+use model::{AffectedObject, CauseSpan, Payload, Prefix, Record, Span};
 use record::{AlarmAt, ObjectAt, Slot};
 
 // The cause in its stored form. It is put as a string of a call first.
-pub(crate) fn cause_into(p: &mut [u8], call: &[u8], c: CauseSpan)
-    requires { (length p.old ≡ payload_width) × cause_within call.now c }
+pub(crate) fn cause_into(p: &mut Payload, call: &[u8], c: CauseSpan)
+    requires { cause_within call.now c }
     ensures { p.new ≡ splice p.old 175 (cause_slot.put (cause_part call.now c)) }
 {
     let mut string = [0u8; Prefix::LENGTH + Record::CAUSE];
@@ -29,8 +28,8 @@ const MARK: usize = AlarmAt::OBJECT + ObjectAt::MARK;
 const QUEUE: usize = AlarmAt::OBJECT + ObjectAt::QUEUE;
 
 // Two strings, and a queue, which is 0 where the kind has none.
-fn pair_into(p: &mut [u8], call: &[u8], kind: u8, a: Span, b: Span, queue: u16)
-    requires { (length p.old ≡ payload_width) × within call.now short_limit a × within call.now short_limit b }
+fn pair_into(p: &mut Payload, call: &[u8], kind: u8, a: Span, b: Span, queue: u16)
+    requires { within call.now short_limit a × within call.now short_limit b }
     ensures { p.new ≡ splice p.old 273 (pair_of call.now kind a b queue) }
 {
     slots::marked_into(p, AlarmAt::OBJECT, Record::SHORT, kind, call, a);
@@ -39,8 +38,8 @@ fn pair_into(p: &mut [u8], call: &[u8], kind: u8, a: Span, b: Span, queue: u16)
 }
 
 // One string.
-fn single_into(p: &mut [u8], call: &[u8], kind: u8, a: Span)
-    requires { (length p.old ≡ payload_width) × within call.now short_limit a }
+fn single_into(p: &mut Payload, call: &[u8], kind: u8, a: Span)
+    requires { within call.now short_limit a }
     ensures { p.new ≡ splice p.old 273 (single_of call.now kind a) }
 {
     slots::marked_into(p, AlarmAt::OBJECT, Record::SHORT, kind, call, a);
@@ -49,9 +48,8 @@ fn single_into(p: &mut [u8], call: &[u8], kind: u8, a: Span)
 }
 
 // A session store, with its shard.
-fn store_into(p: &mut [u8], call: &[u8], a: Span, shard: Option<Span>)
-    requires { (length p.old ≡ payload_width)
-        × within call.now short_limit a
+fn store_into(p: &mut Payload, call: &[u8], a: Span, shard: Option<Span>)
+    requires { within call.now short_limit a
         × opt_within call.now short_limit shard }
     ensures { p.new ≡ splice p.old 273 (store_of call.now a shard) }
 {
@@ -60,8 +58,8 @@ fn store_into(p: &mut [u8], call: &[u8], a: Span, shard: Option<Span>)
     octets::put16(p, QUEUE, 0);
 }
 
-pub(crate) fn object_into(p: &mut [u8], call: &[u8], o: AffectedObject)
-    requires { (length p.old ≡ payload_width) × object_within call.now o }
+pub(crate) fn object_into(p: &mut Payload, call: &[u8], o: AffectedObject)
+    requires { object_within call.now o }
     ensures { p.new
         ≡ splice p.old 273 (object_slot.put (object_value call.now o)) }
 {

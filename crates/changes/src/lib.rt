@@ -7,34 +7,24 @@
 // raises.
 #![tactic(auto)]
 
-ghost use Rattle.std.specs.Prelude.{◌≡◌, length};
+ghost use Rattle.std.specs.Prelude.{◌≡◌};
 ghost use Rattle.std.proofs.Math.Option.{some};
 ghost use Rattle.definition.specs.Limits.{text_limit, details_limit};
-ghost use Rattle.definition.specs.Book.{payload_width};
 ghost use Rattle.definition.specs.Record.{last_active, alarm_bytes, read_alarm};
-ghost use Rattle.definition.specs.Steps.{updated_state, one_more_raise, cleared_by, action_state, acted_on, expired_by, lifted_by};
+ghost use Rattle.definition.specs.Steps.{updated_state, one_more_raise, cleared_by, acted_on, expired_by, lifted_by};
 ghost use Rattle.definition.specs.Value.{deed_end};
 ghost use Rattle.definition.specs.Alarm.{with_text, with_details, with_end};
-ghost use Rattle.model.specs.Meaning.{part, opt_part, within, opt_within, action_of, deed_of};
+ghost use Rattle.model.specs.Meaning.{part, opt_part, within, opt_within, deed_of};
 ghost use Rattle.history.specs.Meaning.{IsAlarm};
 ghost use Rattle.changes.specs.Meaning.{Turns, NewsWithin, news_of, updated_with};
 
-use model::{Action, Deed, Span};
+use model::{Deed, Payload, Span};
+use record::{Severity, State};
 
 // ---- "Plain 3, 4": the state of the action, the later time, and operation 13's end
 
-fn state_of(action: Action) -> u8
-    ensures { result ≡ action_state (action_of action) }
-{
-    match action {
-        Action::Acknowledge => 2,
-        Action::Suppress => 3,
-    }
-}
-
 // The end of a timed suppression; any other removes it.
-fn set_end(p: &mut [u8], deed: Deed)
-    requires { length p.old ≡ payload_width }
+fn set_end(p: &mut Payload, deed: Deed)
     ensures { Turns (with_end (deed_end (deed_of deed))) p.old p.new }
 {
     match deed {
@@ -43,25 +33,26 @@ fn set_end(p: &mut [u8], deed: Deed)
     }
 }
 
-pub fn acted_on(p: &mut [u8], deed: Deed, time: u64)
+pub fn acted_on(p: &mut Payload, deed: Deed, time: u64)
     requires { IsAlarm last_active p.old }
     ensures { p.new ≡ alarm_bytes (acted_on (deed_of deed) time (read_alarm p.old)) }
 {
     let t = time::late(time, record::raised_at(p));
-    record::set_state(p, state_of(model::action_of(deed)));
+    let state = State::from(model::action_of(deed));
+    record::set_state(p, u8::from(state));
     record::set_updated(p, t);
     set_end(p, deed);
 }
 
 // ---- "Clear": state 4, severity 0, cleared_at and updated_at late, no end
 
-pub fn cleared_by(p: &mut [u8], time: u64)
+pub fn cleared_by(p: &mut Payload, time: u64)
     requires { IsAlarm last_active p.old }
     ensures { p.new ≡ alarm_bytes (cleared_by time (read_alarm p.old)) }
 {
     let t = time::late(time, record::raised_at(p));
-    record::set_severity(p, 0);
-    record::set_state(p, 4);
+    record::set_severity(p, Severity::Cleared as u8);
+    record::set_state(p, State::Cleared as u8);
     record::set_updated(p, t);
     record::set_cleared(p, t);
     record::no_end(p);
@@ -69,11 +60,11 @@ pub fn cleared_by(p: &mut [u8], time: u64)
 
 // ---- "Expire": state 5, updated_at and cleared_at the cutoff, no end
 
-pub fn expired_by(p: &mut [u8], cutoff: u64)
+pub fn expired_by(p: &mut Payload, cutoff: u64)
     requires { IsAlarm last_active p.old }
     ensures { p.new ≡ alarm_bytes (expired_by cutoff (read_alarm p.old)) }
 {
-    record::set_state(p, 5);
+    record::set_state(p, State::Expired as u8);
     record::set_updated(p, cutoff);
     record::set_cleared(p, cutoff);
     record::no_end(p);
@@ -81,12 +72,12 @@ pub fn expired_by(p: &mut [u8], cutoff: u64)
 
 // ---- operation 14: state 1, the later of cutoff and raised_at, no end
 
-pub fn lifted_by(p: &mut [u8], cutoff: u64)
+pub fn lifted_by(p: &mut Payload, cutoff: u64)
     requires { IsAlarm last_active p.old }
     ensures { p.new ≡ alarm_bytes (lifted_by cutoff (read_alarm p.old)) }
 {
     let t = time::late(cutoff, record::raised_at(p));
-    record::set_state(p, 1);
+    record::set_state(p, State::Updated as u8);
     record::set_updated(p, t);
     record::no_end(p);
 }
@@ -96,44 +87,27 @@ pub fn lifted_by(p: &mut [u8], cutoff: u64)
 fn updated_state(state: u8) -> u8
     ensures { result ≡ updated_state state }
 {
-    if state <= 1 { 1 } else { state }
+    if state == State::Raised as u8 {
+        return State::Updated as u8;
+    }
+    state
 }
-
-const MOST_RAISES: u32 = 4294967295;
 
 // Held at the most that the record has room for.
 fn one_more_raise(raises: u32) -> u32
     ensures { result ≡ one_more_raise raises }
 {
-    if raises < MOST_RAISES {
-        raises + 1
-    } else {
-        MOST_RAISES
-    }
+    raises.saturating_add(1)
 }
 
-fn put_details(p: &mut [u8], call: &[u8], s: Span)
-    requires { (length p.old ≡ payload_width) × within call.now details_limit s }
-    ensures { Turns (with_details (some (part call.now s))) p.old p.new }
-{
-    record::set_details(p, model::part(call, s));
-}
-
-fn set_details(p: &mut [u8], call: &[u8], details: Option<Span>)
-    requires { (length p.old ≡ payload_width) × opt_within call.now details_limit details }
+fn set_details(p: &mut Payload, call: &[u8], details: Option<Span>)
+    requires { opt_within call.now details_limit details }
     ensures { Turns (with_details (opt_part call.now details)) p.old p.new }
 {
     match details {
         None => record::no_details(p),
-        Some(s) => put_details(p, call, s),
+        Some(s) => record::set_details(p, model::part(call, s)),
     }
-}
-
-fn set_text(p: &mut [u8], call: &[u8], s: Span)
-    requires { (length p.old ≡ payload_width) × within call.now text_limit s }
-    ensures { Turns (with_text (part call.now s)) p.old p.new }
-{
-    record::set_text(p, model::part(call, s));
 }
 
 // What a raise brings to an alarm that is active.
@@ -145,7 +119,7 @@ pub struct News {
     pub details: Option<Span>,
 }
 
-pub fn updated_by(p: &mut [u8], call: &[u8], news: News)
+pub fn updated_by(p: &mut Payload, call: &[u8], news: News)
     requires { IsAlarm last_active p.old × NewsWithin call.now news }
     ensures { p.new
         ≡ alarm_bytes (updated_with (news_of call.now news) (read_alarm p.old)) }
@@ -154,9 +128,8 @@ pub fn updated_by(p: &mut [u8], call: &[u8], news: News)
     let s = updated_state(record::state(p));
     let n = one_more_raise(record::raises(p));
     record::set_severity(p, news.severity);
-    set_text(p, call, news.text);
-    let details = news.details;
-    set_details(p, call, details);
+    record::set_text(p, model::part(call, news.text));
+    set_details(p, call, news.details);
     record::set_state(p, s);
     record::set_updated(p, t);
     record::set_raises(p, n);

@@ -18,11 +18,8 @@ ghost use Rattle.history.specs.Meaning.{Newest, OnActive, Files};
 ghost use Rattle.history.specs.Walk.{alarm_at};
 ghost use Rattle.expiry.specs.Sweep.{takes, step_of, kept_by, Swept, Passes};
 
-use model::Record;
+use record::State;
 use register::{Chain, Ends};
-
-// The state of a suppressed alarm.
-const SUPPRESSED: u8 = 3;
 
 // What a sweep does to the alarms that it takes. An enum and no trait: the laws of a sweep (specs/SweepLaws.antt) tell the two rounds apart.
 #[derive(Clone, Copy)]
@@ -56,7 +53,7 @@ fn is_over(register: &[u8], i: u32, cutoff: u64) -> bool
     ensures { result ≡ is_over cutoff (alarm_at register.now i) }
 {
     let p = register::payload(register, i);
-    record::state(p) == SUPPRESSED && has_ended(record::end(p), cutoff)
+    record::state(p) == State::Suppressed as u8 && has_ended(record::end(p), cutoff)
 }
 
 fn is_taken(register: &[u8], i: u32, round: Round, cutoff: u64) -> bool
@@ -80,8 +77,7 @@ fn expire_at(register: &mut [u8], i: u32, previous: u32, ends: Ends, cutoff: u64
         register.new
         result }
 {
-    let mut p = [0u8; Record::PAYLOAD];
-    state::load(&mut p, register, i);
+    let mut p = state::load(register, i);
     changes::expired_by(&mut p, cutoff);
     history::retire(register, i, previous, ends, &p)
 }
@@ -95,8 +91,7 @@ fn lift_at(register: &mut [u8], i: u32, ends: Ends, cutoff: u64) -> u32
         register.new
         result }
 {
-    let mut p = [0u8; Record::PAYLOAD];
-    state::load(&mut p, register, i);
+    let mut p = state::load(register, i);
     changes::lifted_by(&mut p, cutoff);
     history::revise(register, i, ends, &p)
 }

@@ -7,10 +7,11 @@ ghost use Rattle.definition.specs.Sound.{sound};
 ghost use Rattle.history.specs.Walk.{alarms_on};
 ghost use Rattle.metrics.specs.Meaning.{shown as shown_of};
 
+use record::State;
 use register::Chain;
 
 // The state of a suppressed alarm.
-const SUPPRESSED: u8 = 3;
+const SUPPRESSED: u8 = State::Suppressed as u8;
 
 // The impact on readiness of an alarm of a severity; 0 where there is none.
 fn readiness(severity: Option<u8>) -> u8

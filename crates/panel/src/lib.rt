@@ -14,6 +14,7 @@ ghost use Rattle.history.specs.Walk.{alarms_on};
 ghost use Rattle.panel.specs.Meaning.{call_of, flag_of, Shows};
 
 use model::Refusal;
+use record::State;
 use register::Chain;
 
 // A call on the panel: a look, or a write of a value to the byte at a place.
@@ -44,7 +45,7 @@ const MASK_BYTE: u32 = 1;
 const MASK_BITS: u8 = 63;
 
 // The last of the two states in which an alarm sets its flag: raised and updated.
-const UPDATED: u8 = 1;
+const UPDATED: u8 = State::Updated as u8;
 
 // The flag of an alarm in a state and of a severity; none in other states.
 fn flag(state: u8, severity: u8) -> u8

@@ -23,7 +23,7 @@ ghost use Rattle.raising.specs.Meaning.{Ready, updates_at, raises_new};
 
 use answers::Code;
 use changes::News;
-use model::{Record, Refusal, Span};
+use model::{Key, Record, Refusal, Span};
 use raise_fields::Raise;
 use register::{Chain, Ends, Found};
 use reply::Reply;
@@ -46,17 +46,13 @@ fn update(
         answer.new
         result }
 {
-    let head = r.head;
-    let text = r.text;
-    let details = r.details;
     let news = News {
-        time: head.time,
-        severity: head.severity,
-        text: text,
-        details: details,
+        time: r.head.time,
+        severity: r.head.severity,
+        text: r.text,
+        details: r.details,
     };
-    let mut p = [0u8; Record::PAYLOAD];
-    state::load(&mut p, register, i);
+    let mut p = state::load(register, i);
     changes::updated_by(&mut p, call, news);
     history::revise(register, i, ends, &p);
     answers::put_alarm(answer, Code::Updated, &p)
@@ -77,12 +73,11 @@ fn insert(
     ends: Ends,
     call: &[u8],
     r: Raise,
-    key: &[u8],
+    key: &Key,
     answer: &mut [u8],
 ) -> Reply
     requires { Ready register.old ends call.now r answer.old
-        × ActiveRoom register.old ends.active
-        × (length key.now ≡ 16) }
+        × ActiveRoom register.old ends.active }
     ensures { Replies
         result
         (S.store_new (S.new_alarm (raise_value call.now r) key.now))
@@ -106,10 +101,10 @@ fn raise_new(
     ends: Ends,
     call: &[u8],
     r: Raise,
-    key: &[u8],
+    key: &Key,
     answer: &mut [u8],
 ) -> Reply
-    requires { Ready register.old ends call.now r answer.old × (length key.now ≡ 16) }
+    requires { Ready register.old ends call.now r answer.old }
     ensures { Replies
         result
         (raises_new (raise_value call.now r) key.now)
@@ -131,12 +126,11 @@ pub fn raise_at(
     ends: Ends,
     call: &[u8],
     r: Raise,
-    key: &[u8],
+    key: &Key,
     found: Option<Found>,
     answer: &mut [u8],
 ) -> Reply
     requires { Ready register.old ends call.now r answer.old
-        × (length key.now ≡ 16)
         × Finds (has_key key.now) register.old found }
     ensures { Replies
         result

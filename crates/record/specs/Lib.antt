@@ -1,3 +1,4 @@
+pub mod Values
 pub mod Meaning
 pub mod Change
 pub mod LentLaws

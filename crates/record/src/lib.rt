@@ -19,52 +19,48 @@ ghost use Rattle.model.specs.Meaning.{opt_time};
 ghost use Rattle.record.specs.Meaning.{string_at, option_at};
 ghost use Rattle.record.specs.Change.{Becomes};
 
-use model::Record;
+use model::{Payload, Record};
 
 mod places;
+mod values;
 
 pub use places::{AlarmAt, EventAt, ObjectAt, Slot};
+pub use values::{Severity, State};
 
 // ---- fields read
 
-pub fn severity(p: &[u8]) -> u8
-    requires { length p.now ≡ payload_width }
+pub fn severity(p: &Payload) -> u8
     ensures { result ≡ (read_alarm p.now).severity }
 {
     p[AlarmAt::SEVERITY]
 }
 
-pub fn state(p: &[u8]) -> u8
-    requires { length p.now ≡ payload_width }
+pub fn state(p: &Payload) -> u8
     ensures { result ≡ (read_alarm p.now).state }
 {
     p[AlarmAt::STATE]
 }
 
-pub fn raised_at(p: &[u8]) -> u64
-    requires { length p.now ≡ payload_width }
+pub fn raised_at(p: &Payload) -> u64
     ensures { result ≡ (read_alarm p.now).raised_at }
 {
     octets::get64(p, AlarmAt::RAISED_AT)
 }
 
-pub fn updated_at(p: &[u8]) -> u64
-    requires { length p.now ≡ payload_width }
+pub fn updated_at(p: &Payload) -> u64
     ensures { result ≡ (read_alarm p.now).updated_at }
 {
     octets::get64(p, AlarmAt::UPDATED_AT)
 }
 
-pub fn raises(p: &[u8]) -> u32
-    requires { length p.now ≡ payload_width }
+pub fn raises(p: &Payload) -> u32
     ensures { result ≡ (read_alarm p.now).raises }
 {
     octets::get32(p, AlarmAt::RAISES)
 }
 
 // The end of a suppression.
-pub fn end(p: &[u8]) -> Option<u64>
-    requires { length p.now ≡ payload_width }
+pub fn end(p: &Payload) -> Option<u64>
     ensures { opt_time result ≡ (read_alarm p.now).end }
 {
     if p[AlarmAt::END] == 0 {
@@ -74,8 +70,8 @@ pub fn end(p: &[u8]) -> Option<u64>
 }
 
 // The string in a slot; all of its room where the length is above it.
-fn string_of(p: &[u8], at: usize, n: usize) -> &[u8]
-    requires { (length p.now ≡ payload_width) × (at + (2 + n) ≤ payload_width) }
+fn string_of(p: &Payload, at: usize, n: usize) -> &[u8]
+    requires { at + (2 + n) ≤ payload_width }
     ensures { result.now ≡ string_at n p.now at }
 {
     let m = octets::get16(p, at) as usize;
@@ -88,23 +84,21 @@ fn string_of(p: &[u8], at: usize, n: usize) -> &[u8]
     &p[a..e]
 }
 
-pub fn id(p: &[u8]) -> &[u8]
-    requires { length p.now ≡ payload_width }
+pub fn id(p: &Payload) -> &[u8]
     ensures { result.now ≡ (read_alarm p.now).id }
 {
     string_of(p, AlarmAt::ID, Record::SHORT)
 }
 
-pub fn cause(p: &[u8]) -> &[u8]
-    requires { length p.now ≡ payload_width }
+pub fn cause(p: &Payload) -> &[u8]
     ensures { result.now ≡ (read_alarm p.now).about.cause }
 {
     string_of(p, AlarmAt::CAUSE, Record::CAUSE)
 }
 
 // Whether the slot of an optional string has one, and it is s.
-pub fn has_some(p: &[u8], at: usize, n: usize, s: &[u8]) -> bool
-    requires { (length p.now ≡ payload_width) × (at + (3 + n) ≤ payload_width) }
+pub fn has_some(p: &Payload, at: usize, n: usize, s: &[u8]) -> bool
+    requires { at + (3 + n) ≤ payload_width }
     ensures { result ≡ same_maybe same (some s.now) (option_at n p.now at) }
 {
     if p[at] == 0 {
@@ -115,10 +109,8 @@ pub fn has_some(p: &[u8], at: usize, n: usize, s: &[u8]) -> bool
 }
 
 // Whether two sound alarms are the same to history.
-pub fn same_alarm(p: &[u8], q: &[u8]) -> bool
-    requires { (length p.now ≡ payload_width)
-        × (length q.now ≡ payload_width)
-        × T (sound_alarm last_state p.now)
+pub fn same_alarm(p: &Payload, q: &Payload) -> bool
+    requires { T (sound_alarm last_state p.now)
         × T (sound_alarm last_state q.now) }
     ensures { result ≡ same_identity (read_alarm p.now) (read_alarm q.now) }
 {
@@ -156,22 +148,19 @@ pub fn put_marked(p: &mut [u8], at: usize, n: usize, mark: u8, s: &[u8])
     put_string(p, a, n, s);
 }
 
-pub fn set_severity(p: &mut [u8], v: u8)
-    requires { length p.old ≡ payload_width }
+pub fn set_severity(p: &mut Payload, v: u8)
     ensures { Becomes (with_severity v) 16 (v ∷ []) p.old p.new }
 {
     octets::put_byte(p, AlarmAt::SEVERITY, v);
 }
 
-pub fn set_state(p: &mut [u8], v: u8)
-    requires { length p.old ≡ payload_width }
+pub fn set_state(p: &mut Payload, v: u8)
     ensures { Becomes (with_state v) 17 (v ∷ []) p.old p.new }
 {
     octets::put_byte(p, AlarmAt::STATE, v);
 }
 
-pub fn set_updated(p: &mut [u8], t: u64)
-    requires { length p.old ≡ payload_width }
+pub fn set_updated(p: &mut Payload, t: u64)
     ensures { Becomes (with_updated t) 26 (digits 8 t) p.old p.new }
 {
     octets::put64(p, AlarmAt::UPDATED_AT, t);
@@ -187,15 +176,14 @@ fn put_time(p: &mut [u8], at: usize, t: u64)
     octets::put64(p, a, t);
 }
 
-pub fn set_cleared(p: &mut [u8], t: u64)
-    requires { length p.old ≡ payload_width }
+pub fn set_cleared(p: &mut Payload, t: u64)
     ensures { Becomes (with_cleared t) 34 (1 ∷ digits 8 t) p.old p.new }
 {
     put_time(p, AlarmAt::CLEARED_AT, t);
 }
 
-pub fn set_text(p: &mut [u8], s: &[u8])
-    requires { (length p.old ≡ payload_width) × (length s.now ≤ text_limit) }
+pub fn set_text(p: &mut Payload, s: &[u8])
+    requires { length s.now ≤ text_limit }
     ensures { Becomes
         (with_text s.now)
         674
@@ -206,8 +194,8 @@ pub fn set_text(p: &mut [u8], s: &[u8])
     put_string(p, AlarmAt::TEXT, Record::TEXT, s);
 }
 
-pub fn set_details(p: &mut [u8], s: &[u8])
-    requires { (length p.old ≡ payload_width) × (length s.now ≤ details_limit) }
+pub fn set_details(p: &mut Payload, s: &[u8])
+    requires { length s.now ≤ details_limit }
     ensures { Becomes
         (with_details (some s.now))
         932
@@ -218,29 +206,25 @@ pub fn set_details(p: &mut [u8], s: &[u8])
     put_marked(p, AlarmAt::DETAILS, Record::DETAILS, 1, s);
 }
 
-pub fn no_details(p: &mut [u8])
-    requires { length p.old ≡ payload_width }
+pub fn no_details(p: &mut Payload)
     ensures { Becomes (with_details none) 932 (zeros 515) p.old p.new }
 {
     octets::put_zeros(p, AlarmAt::DETAILS, Slot::OPTIONAL_DETAILS);
 }
 
-pub fn set_raises(p: &mut [u8], n: u32)
-    requires { length p.old ≡ payload_width }
+pub fn set_raises(p: &mut Payload, n: u32)
     ensures { Becomes (with_raises n) 1447 (digits 4 n) p.old p.new }
 {
     octets::put32(p, AlarmAt::RAISES, n);
 }
 
-pub fn set_end(p: &mut [u8], t: u64)
-    requires { length p.old ≡ payload_width }
+pub fn set_end(p: &mut Payload, t: u64)
     ensures { Becomes (with_end (some t)) 1451 (1 ∷ digits 8 t) p.old p.new }
 {
     put_time(p, AlarmAt::END, t);
 }
 
-pub fn no_end(p: &mut [u8])
-    requires { length p.old ≡ payload_width }
+pub fn no_end(p: &mut Payload)
     ensures { Becomes (with_end none) 1451 (zeros 9) p.old p.new }
 {
     octets::put_zeros(p, AlarmAt::END, Slot::OPTIONAL_TIME);

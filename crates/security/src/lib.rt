@@ -5,16 +5,17 @@
 // payload's fields are read by `record`; nothing of the text or of the details is looked at.
 #![tactic(auto)]
 
-ghost use Rattle.std.specs.Prelude.{◌≡◌, length};
+ghost use Rattle.std.specs.Prelude.{◌≡◌};
+ghost use Rattle.std.specs.List.{list_any};
+ghost use Rattle.octets.specs.Bytes.{same};
 ghost use Rattle.definition.specs.Alarm.{guarded, is_critical};
-ghost use Rattle.definition.specs.Book.{payload_width};
 ghost use Rattle.definition.specs.Cause.{one_of};
 ghost use Rattle.definition.specs.Record.{read_alarm};
 
-// Severity 5 is critical.
-const CRITICAL: u8 = 5;
+use model::Payload;
+use record::Severity;
 
-// The nine causes of security and of integrity.
+// The nine causes, of security and of integrity.
 const GUARDED: [&[u8]; 9] = [
     b"authorization-policy-invalid",
     b"identity-unavailable",
@@ -27,17 +28,22 @@ const GUARDED: [&[u8]; 9] = [
     b"security-break-glass",
 ];
 
-// Whether a cause is one of the nine.
+// Whether a text is one of some.
+fn is_one_of(names: &[&[u8]], text: &[u8]) -> bool
+    ensures { result ≡ list_any (λ name. same name.now text.now) names.now }
+{
+    names.iter().any(|name| octets::equal(name, text))
+}
+
 fn is_guarded(cause: &[u8]) -> bool
     ensures { result ≡ one_of guarded cause.now }
 {
-    GUARDED.iter().any(|name| octets::equal(name, cause))
+    is_one_of(&GUARDED, cause)
 }
 
 // Whether the alarm in a payload is critical or of one of the nine causes.
-pub fn requires_explicit_suppression_policy(alarm: &[u8]) -> bool
-    requires { length alarm.now ≡ payload_width }
+pub fn requires_explicit_suppression_policy(alarm: &Payload) -> bool
     ensures { result ≡ is_critical (read_alarm alarm.now) }
 {
-    record::severity(alarm) == CRITICAL || is_guarded(record::cause(alarm))
+    record::severity(alarm) == Severity::Critical as u8 || is_guarded(record::cause(alarm))
 }

@@ -11,7 +11,7 @@ ghost use Rattle.definition.specs.Limits.{short_limit};
 ghost use Rattle.definition.specs.Chain.{entry, first};
 ghost use Rattle.definition.specs.Alarm.{has_key};
 ghost use Rattle.definition.specs.Record.{last_active};
-ghost use Rattle.definition.specs.Book.{payload_width, record_of};
+ghost use Rattle.definition.specs.Book.{record_of};
 ghost use Rattle.definition.specs.Steps as S;
 ghost use Rattle.definition.specs.Answer.{Unauthorized, answer_bytes};
 ghost use Rattle.definition.specs.Sound.{station, sound};
@@ -28,17 +28,16 @@ ghost use Rattle.state.specs.Meaning.{Authorised, Clearing, EndsInTime, action_c
 
 use action_fields::Plain;
 use answers::Code;
-use model::{Action, Deed, Record};
+use model::{Action, Deed, Key, Payload};
 use raise_fields::Clear;
 use register::{Ends, Found};
 
 // Active record i's payload, copied.
-pub fn load(p: &mut [u8], register: &[u8], i: u32)
-    requires { (length p.old ≡ payload_width) × T (sound register.now) × OnActive register.now i }
-    ensures { (p.new ≡ (record_of register.now i).content)
-        × IsAlarm last_active p.new }
+pub fn load(register: &[u8], i: u32) -> Payload
+    requires { T (sound register.now) × OnActive register.now i }
+    ensures { (result ≡ (record_of register.now i).content) × IsAlarm last_active result }
 {
-    octets::put_bytes(p, 0, register::payload(register, i));
+    *register::payload(register, i)
 }
 
 // ---- 3 acknowledge, 4 suppress
@@ -73,8 +72,7 @@ pub fn act(
         answer.new
         result }
 {
-    let mut p = [0u8; Record::PAYLOAD];
-    load(&mut p, register, i);
+    let mut p = load(register, i);
     changes::acted_on(&mut p, deed, time);
     history::revise(register, i, ends, &p);
     answers::put_alarm(answer, code_of(model::action_of(deed)), &p)
@@ -160,11 +158,10 @@ pub fn plain(
     if p.authorised == 0 {
         return not_authorized(answer, action);
     }
-    let id = p.id;
     plain_on(
         register,
         ends,
-        model::part(call, id),
+        model::part(call, p.id),
         p.time,
         action,
         answer,
@@ -193,8 +190,7 @@ fn clear_found(
         answer.new
         result }
 {
-    let mut p = [0u8; Record::PAYLOAD];
-    load(&mut p, register, i);
+    let mut p = load(register, i);
     changes::cleared_by(&mut p, time);
     history::retire(register, i, previous, ends, &p);
     answers::put_text(answer, Code::Cleared, record::id(&p))
@@ -206,12 +202,11 @@ pub fn clear_at(
     ends: Ends,
     call: &[u8],
     c: Clear,
-    key: &[u8],
+    key: &Key,
     found: Option<Found>,
     answer: &mut [u8],
 ) -> usize
     requires { Clearing register.old ends call.now c answer.old
-        × (length key.now ≡ 16)
         × Finds (has_key key.now) register.old found }
     ensures { Answers
         (S.clear_at
@@ -224,10 +219,8 @@ pub fn clear_at(
         answer.new
         result }
 {
-    let about = c.key;
-    let cause = about.cause;
     match found {
         Some(Found { at, previous }) => clear_found(register, at, previous, ends, c.time, answer),
-        None => answers::put_without(answer, key, call, cause),
+        None => answers::put_without(answer, key, call, c.key.cause),
     }
 }

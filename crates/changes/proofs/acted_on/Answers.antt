@@ -8,5 +8,5 @@ use Rattle.changes.proofs.acted_on.Goals as goal
 
 pub returns : goal.returns
 returns c =
-    acted _ c.requires (deed_of c.args.deed) _ _ _ _ _ _ (c.state_of.ensures ∙ ap action_state c.action_of.ensures) (c.late-t.ensures ∙ ap (late c.args.time) c.raised_at.ensures)
+    acted _ c.requires (deed_of c.args.deed) _ _ _ _ _ _ (c.from.ensures ∙ c.from-state.ensures ∙ ap action_state c.action_of.ensures) (c.late-t.ensures ∙ ap (late c.args.time) c.raised_at.ensures)
     c.set_state.ensures.alarm c.set_updated.ensures.alarm c.set_end.ensures

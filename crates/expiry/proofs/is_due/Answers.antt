@@ -4,11 +4,7 @@ use Prim.Native.Nat.{ℕ}
 use Rattle.octets.specs.Bytes.{Bytes}
 use Rattle.definition.specs.Alarm.{before}
 use Rattle.definition.specs.Record.{read_alarm}
-use Rattle.register.specs.WalkLaws.{content_width}
 use Rattle.expiry.proofs.is_due.Goals as goal
-
-pub updated_at-requires : goal.updated_at-requires
-updated_at-requires c = content_width _ _ c.requires c.payload.ensures
 
 pub returns : goal.returns
 returns c =

@@ -11,12 +11,6 @@ loop-i-init c =
 pub payload-alarm-requires : goal.payload-alarm-requires
 payload-alarm-requires c = ahead_fits c.loop-i.invariant.ahead c.in-Some.ensures.steps
 
-pub state-requires : goal.state-requires
-state-requires c = ahead_width c.loop-i.invariant.ahead c.in-Some.ensures.steps c.payload-alarm.ensures
-
-pub severity-requires : goal.severity-requires
-severity-requires c = ahead_width c.loop-i.invariant.ahead c.in-Some.ensures.steps c.payload-alarm.ensures
-
 pub flag-found-requires : goal.flag-found-requires
 flag-found-requires c = passed_severity c.loop-i.invariant c.in-Some.ensures.steps c.payload-alarm.ensures c.severity.ensures
 

@@ -5,12 +5,12 @@ use Rattle.raising.proofs.raise_at.Goals as goal
 
 pub update-requires : goal.update-requires
 update-requires c =
-    (c.requires.0, (finds_release c.requires.2 c.in-Some.is c.requires.0.standing.whole).on)
+    (c.requires.0, (finds_release c.requires.1 c.in-Some.is c.requires.0.standing.whole).on)
 
 pub returns-in-Some : goal.returns-in-Some
 returns-in-Some c =
-    raise_at_found _ _ _ _ _ _ _ _ (finds_first c.requires.2 c.in-Some.is) c.update.ensures
+    raise_at_found _ _ _ _ _ _ _ _ (finds_first c.requires.1 c.in-Some.is) c.update.ensures
 
 pub returns-in-None : goal.returns-in-None
 returns-in-None c =
-    raise_at_none _ _ _ _ _ _ c.raise_new.result (finds_first c.requires.2 c.in-None.is) c.raise_new.ensures
+    raise_at_none _ _ _ _ _ _ c.raise_new.result (finds_first c.requires.1 c.in-None.is) c.raise_new.ensures

@@ -8,21 +8,21 @@ use Rattle.raising.specs.RaiseLaws.{limit_met, has_room}
 use Rattle.raising.proofs.raise_new.Goals as goal
 
 pub limit-limit-requires : goal.limit-limit-requires
-limit-limit-requires c = (c.requires.0.standing.whole, omega arith)
+limit-limit-requires c = (c.requires.standing.whole, omega arith)
 
 pub held-requires : goal.held-requires
-held-requires c = c.requires.0.standing.whole
+held-requires c = c.requires.standing.whole
 
 pub returns-then-limit-held : goal.returns-then-limit-held
 returns-then-limit-held c =
-    limit_met (raise_value c.args.call.now c.args.r) _ c.args.register.now c.requires.0.standing.whole _ _ _ _ (c.limit-limit.ensures ∙ active_limit c.args.register.now c.requires.0.standing.whole)
-    (omega (arith, c.if-limit-held.true, c.limit-limit.ensures, c.held.ensures, active_limit c.args.register.now c.requires.0.standing.whole, active_length_lem c.args.register.now c.requires.0.standing.whole)) c.put_limit.ensures
+    limit_met (raise_value c.args.call.now c.args.r) _ c.args.register.now c.requires.standing.whole _ _ _ _ (c.limit-limit.ensures ∙ active_limit c.args.register.now c.requires.standing.whole)
+    (omega (arith, c.if-limit-held.true, c.limit-limit.ensures, c.held.ensures, active_limit c.args.register.now c.requires.standing.whole, active_length_lem c.args.register.now c.requires.standing.whole)) c.put_limit.ensures
 
 pub insert-requires : goal.insert-requires
 insert-requires c =
-    (c.requires.0, standing_room c.requires.0.standing (omega (arith, c.if-limit-held.false, c.limit-limit.ensures, c.held.ensures, active_limit c.args.register.now c.requires.0.standing.whole, active_length_lem c.args.register.now c.requires.0.standing.whole)), c.requires.1)
+    (c.requires, standing_room c.requires.standing (omega (arith, c.if-limit-held.false, c.limit-limit.ensures, c.held.ensures, active_limit c.args.register.now c.requires.standing.whole, active_length_lem c.args.register.now c.requires.standing.whole)))
 
 pub returns : goal.returns
 returns c =
-    has_room (raise_value c.args.call.now c.args.r) c.args.key.now c.args.register.now c.requires.0.standing.whole c.insert.result c.insert.new.register c.args.answer.now c.insert.new.answer
-    (omega (arith, c.if-limit-held.false, c.limit-limit.ensures, c.held.ensures, active_limit c.args.register.now c.requires.0.standing.whole, active_length_lem c.args.register.now c.requires.0.standing.whole)) c.insert.ensures
+    has_room (raise_value c.args.call.now c.args.r) c.args.key.now c.args.register.now c.requires.standing.whole c.insert.result c.insert.new.register c.args.answer.now c.insert.new.answer
+    (omega (arith, c.if-limit-held.false, c.limit-limit.ensures, c.held.ensures, active_limit c.args.register.now c.requires.standing.whole, active_length_lem c.args.register.now c.requires.standing.whole)) c.insert.ensures

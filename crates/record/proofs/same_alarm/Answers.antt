@@ -6,4 +6,4 @@ use Rattle.record.proofs.same_alarm.Goals as goal
 
 pub returns : goal.returns
 returns c =
-    ap₂ ◌&&◌ c.equal.ensures c.equal-2.ensures ∙ same_identity_lem c.args.p.now c.args.q.now c.requires.2 c.requires.3
+    ap₂ ◌&&◌ c.equal.ensures c.equal-2.ensures ∙ same_identity_lem c.args.p.now c.args.q.now c.requires.0 c.requires.1

@@ -2,28 +2,28 @@
 use Rattle.build.proofs.about.object_into.Goals as goal
 
 pub pair_into-requires : goal.pair_into-requires
-pair_into-requires c = let w = rw c.in-NfInstance.is at c.requires.1 in (c.requires.0, w.0, w.1)
+pair_into-requires c = rw c.in-NfInstance.is at c.requires
 
 pub pair_into-requires-in-Interface : goal.pair_into-requires-in-Interface
-pair_into-requires-in-Interface c = let w = rw c.in-Interface.is at c.requires.1 in (c.requires.0, w.0, w.1)
+pair_into-requires-in-Interface c = rw c.in-Interface.is at c.requires
 
 pub pair_into-requires-in-Peer : goal.pair_into-requires-in-Peer
-pair_into-requires-in-Peer c = let w = rw c.in-Peer.is at c.requires.1 in (c.requires.0, w.0, w.1)
+pair_into-requires-in-Peer c = rw c.in-Peer.is at c.requires
 
 pub store_into-requires : goal.store_into-requires
-store_into-requires c = let w = rw c.in-SessionStore.is at c.requires.1 in (c.requires.0, w.0, w.1)
+store_into-requires c = rw c.in-SessionStore.is at c.requires
 
 pub single_into-requires : goal.single_into-requires
-single_into-requires c = (c.requires.0, rw c.in-Slice.is at c.requires.1)
+single_into-requires c = rw c.in-Slice.is at c.requires
 
 pub single_into-requires-in-Tenant : goal.single_into-requires-in-Tenant
-single_into-requires-in-Tenant c = (c.requires.0, rw c.in-Tenant.is at c.requires.1)
+single_into-requires-in-Tenant c = rw c.in-Tenant.is at c.requires
 
 pub single_into-requires-in-Certificate : goal.single_into-requires-in-Certificate
-single_into-requires-in-Certificate c = (c.requires.0, rw c.in-Certificate.is at c.requires.1)
+single_into-requires-in-Certificate c = rw c.in-Certificate.is at c.requires
 
 pub pair_into-requires-in-DataPlaneQueue : goal.pair_into-requires-in-DataPlaneQueue
-pair_into-requires-in-DataPlaneQueue c = let w = rw c.in-DataPlaneQueue.is at c.requires.1 in (c.requires.0, w.0, w.1)
+pair_into-requires-in-DataPlaneQueue c = rw c.in-DataPlaneQueue.is at c.requires
 
 pub returns-in-NfInstance : goal.returns-in-NfInstance
 returns-in-NfInstance c = rw c.in-NfInstance.is c.pair_into.ensures
