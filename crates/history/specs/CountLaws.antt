@@ -51,9 +51,6 @@ module _ {A : Type 0} (t : A → Bool) where
     pub is : n + length (those t (drop k l)) ≡ length (those t l)
 
 module _ {A : Type 0} {t : A → Bool} {l : List A} where
-  pub counted_none : Counted t l 0 0
-  counted_none = record { few = omega arith; is = omega arith }
-
   module _ {k n : ℕ} (c : Counted t l k n) where
     pub counted_next : {a : A} {y : Bool} {m : ℕ} → drop k l ≡ a ∷ drop (k + 1) l → y ≡ t a → m ≡ cond y (n + 1) n → Counted t l (k + 1) m
     unfolding those
