@@ -152,7 +152,7 @@ fn pass(register: &mut [u8], at: u32, s: Stand, round: Round, cutoff: u64) -> St
     }
 }
 
-// All that the round takes, one by one; gives how many.
+// All that the round takes, one by one; gives how many. No iterator: it would borrow the register, which changes on the way.
 fn sweep(register: &mut [u8], ends: Ends, round: Round, cutoff: u64) -> u32
     requires { Newest register.old ends.history }
     ensures { Swept round cutoff register.old register.new result }

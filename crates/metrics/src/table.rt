@@ -1,7 +1,8 @@
 // A table of ratings by first appearance: for each the record in which it appears first, and how often it appears.
 //
 // `collect` makes it of the chain's first places, as far as there is room for their ratings; `count_on` counts the
-// places behind them in the rows. A rating is compared with the rows one by one.
+// places behind them in the rows. A rating is compared with the rows one by one. Walks begin or end at a place of the
+// chain here and in lib.rt, so they go by place and record: history's iterator begins at the first record, and has no places.
 ghost use Rattle.std.specs.Prelude.{◌≡◌, true, false, ◌+◌, ◌≤◌, ◌<◌, T, length, get_or, IfSome};
 ghost use Rattle.std.specs.Option.{unwrap_or};
 ghost use Rattle.octets.specs.Bytes.{at32};
