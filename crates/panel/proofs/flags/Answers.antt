@@ -1,6 +1,6 @@
 -- `flags`: those of the records passed.
 use mathlib.Core.Path.{◌∙◌}
-use Rattle.history.specs.LinkLaws.{ahead_fits, ahead_width}
+use Rattle.history.specs.LinkLaws.{ahead_fits}
 use Rattle.panel.specs.FlagLaws.{passed_none, passed_severity, passed_next, passed_all}
 use Rattle.panel.proofs.flags.Goals as goal
 

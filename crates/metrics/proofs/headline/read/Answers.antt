@@ -1,6 +1,6 @@
 -- `read`: the worst severity and impact of the records passed.
 use mathlib.Core.Path.{◌∙◌}
-use Rattle.history.specs.LinkLaws.{ahead_fits, ahead_width}
+use Rattle.history.specs.LinkLaws.{ahead_fits}
 use Rattle.metrics.specs.HeadlineLaws.{passed_none, passed_next, passed_all}
 use Rattle.metrics.proofs.headline.read.Goals as goal
 
@@ -10,12 +10,6 @@ loop-i-init c =
 
 pub payload-alarm-requires : goal.payload-alarm-requires
 payload-alarm-requires c = ahead_fits c.loop-i.invariant.ahead c.in-Some.ensures.steps
-
-pub state-requires : goal.state-requires
-state-requires c = ahead_width c.loop-i.invariant.ahead c.in-Some.ensures.steps c.payload-alarm.ensures
-
-pub severity-requires : goal.severity-requires
-severity-requires c = ahead_width c.loop-i.invariant.ahead c.in-Some.ensures.steps c.payload-alarm.ensures
 
 pub loop-i-preserved : goal.loop-i-preserved
 loop-i-preserved c =
