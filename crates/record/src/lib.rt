@@ -74,12 +74,8 @@ fn string_of(p: &Payload, at: usize, n: usize) -> &[u8]
     requires { at + (2 + n) ≤ payload_width }
     ensures { result.now ≡ string_at n p.now at }
 {
-    let m = octets::get16(p, at) as usize;
+    let m = n.min(octets::get16(p, at) as usize);
     let a = at + Slot::LENGTH;
-    if n < m {
-        let e = a + n;
-        return &p[a..e];
-    }
     let e = a + m;
     &p[a..e]
 }

@@ -87,18 +87,11 @@ fn not_authorized(answer: &mut [u8], action: Action) -> usize
         result
         answer.new }
 {
-    match action {
-        Action::Acknowledge => answers::put_text(
-            answer,
-            Code::Unauthorized,
-            b"acknowledge not authorized",
-        ),
-        Action::Suppress => answers::put_text(
-            answer,
-            Code::Unauthorized,
-            b"suppress not authorized",
-        ),
-    }
+    let message: &[u8] = match action {
+        Action::Acknowledge => b"acknowledge not authorized",
+        Action::Suppress => b"suppress not authorized",
+    };
+    answers::put_text(answer, Code::Unauthorized, message)
 }
 
 // The alarm with the id, if it is active; the call says that it is authorised.

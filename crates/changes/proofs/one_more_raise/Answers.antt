@@ -1,5 +1,5 @@
 -- `one_more_raise`: below the most there is room for one more.
-use Rattle.std.proofs.Common.{◌≡◌, ℕ, ◌+◌, ◌<◌, ◌≤◌, ◌⊎◌, min, inl, inr, ◌∙◌, arith}
+use Rattle.std.proofs.Common.{◌≡◌, ℕ, ◌+◌, min, inl, inr, ◌∙◌, arith}
 use Rattle.std.proofs.lemmas.Bool.{cases_lt, cond_below, cond_above}
 use Rattle.definition.specs.Steps.{one_more_raise}
 use Rattle.changes.proofs.one_more_raise.Goals as goal
