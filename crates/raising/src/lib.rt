@@ -7,7 +7,7 @@
 // moves make it, one law for each way.
 #![tactic(auto)]
 
-ghost use Rattle.std.specs.Prelude.{◌≡◌, T, length};
+ghost use Rattle.std.specs.Prelude.{◌≡◌, T};
 ghost use Rattle.definition.specs.Chain.{present, first};
 ghost use Rattle.definition.specs.Alarm.{has_key, has_id};
 ghost use Rattle.definition.specs.Limits.{short_limit};
