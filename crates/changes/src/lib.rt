@@ -13,7 +13,7 @@ ghost use Rattle.definition.specs.Record.{last_active, alarm_bytes, read_alarm};
 ghost use Rattle.definition.specs.Steps.{updated_state, one_more_raise, cleared_by, acted_on, expired_by, lifted_by};
 ghost use Rattle.definition.specs.Value.{deed_end};
 ghost use Rattle.definition.specs.Alarm.{with_details, with_end};
-ghost use Rattle.model.specs.Meaning.{part, opt_part, within, opt_within, deed_of};
+ghost use Rattle.model.specs.Meaning.{opt_part, opt_within, deed_of};
 ghost use Rattle.history.specs.Meaning.{IsAlarm};
 ghost use Rattle.changes.specs.Meaning.{Turns, NewsWithin, news_of, updated_with};
 
