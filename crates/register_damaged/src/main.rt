@@ -6,11 +6,11 @@
 // are made by `python3 tests/register/make.py`, which has a check of its own, written from docs/layout.json.
 #![tactic(auto)]
 
-ghost use Rattle.std.specs.Prelude.{◌≡◌, ◌≤◌, length, IfOk};
+ghost use Rattle.std.specs.Prelude.{◌≡◌, length};
 
 use register_check::check;
 use std::io;
-use std::io::{Read, Write};
+use std::io::Write;
 
 // The verdict on the first n bytes, and where the chains end.
 fn report<W: Write>(writer: &mut W, work: &[u8], n: usize) -> io::Result<()> {
@@ -135,25 +135,10 @@ fn run<W: Write>(writer: &mut W, input: &[u8]) -> io::Result<()> {
     obey_all(writer, &input[4..e], &input[e..])
 }
 
-// Reads until buf is full or the input ends, and says how many bytes came to its front.
-fn read_full<R: Read>(reader: &mut R, buf: &mut [u8]) -> io::Result<usize>
-    ensures { IfOk result (λ n. n ≤ length buf.new) }
-{
-    let mut done = 0;
-    while done < buf.len() {
-        let n = reader.read(&mut buf[done..])?;
-        if n == 0 {
-            break;
-        }
-        done += n;
-    }
-    Ok(done)
-}
-
 fn main(rt: HostRuntime) -> io::Result<()> {
     let mut reader = rt.reader();
     let mut writer = io::writer(&rt);
     let mut input = [0u8; 65536];
-    let n = read_full(&mut reader, &mut input)?;
+    let n = reading::read_full(&mut reader, &mut input)?;
     run(&mut writer, &input[..n])
 }

@@ -6,7 +6,7 @@
 // endings. Then it tries the strings of `stdin`, which lie at the rows' edges, at many places in ASCII, and shows their code points too.
 #![tactic(auto)]
 
-ghost use Rattle.std.specs.Prelude.{◌≡◌, ◌+◌, ◌≤◌, ◌<◌, length, IfOk};
+ghost use Rattle.std.specs.Prelude.{◌≡◌, ◌+◌, ◌≤◌, ◌<◌, length};
 
 use std::io;
 use std::io::{Read, Write};
@@ -241,46 +241,16 @@ fn show_text<W: Write>(writer: &mut W, text: &[u8]) -> io::Result<()> {
     end_line(writer)
 }
 
-// Reads until buf is full or the input ends, and says how many bytes came to its front.
-fn read_full<R: Read>(reader: &mut R, buf: &mut [u8]) -> io::Result<usize>
-    ensures { IfOk result (λ n. n ≤ length buf.new) }
-{
-    let mut done = 0;
-    while done < buf.len() {
-        let n = reader.read(&mut buf[done..])?;
-        if n == 0 {
-            break;
-        }
-        done += n;
-    }
-    Ok(done)
-}
-
-// The next text, behind its length in two bytes, comes to the front of buf, and its line goes out. Says whether there was one that fits.
-fn next<R: Read, W: Write>(reader: &mut R, writer: &mut W, buf: &mut [u8]) -> io::Result<bool> {
-    let mut head = [0u8; 2];
-    if read_full(reader, &mut head)? < 2 {
-        return Ok(false);
-    }
-    let n = octets::number(&head) as usize;
-    if buf.len() < n {
-        return Ok(false);
-    }
-    if read_full(reader, &mut buf[..n])? < n {
-        return Ok(false);
-    }
-    show_text(writer, &buf[..n])?;
-    Ok(true)
-}
-
-// A proved loop ends, and nothing says that the input does: the turns are counted to a number that no run uses up.
+// The texts of the input, each behind its length in two bytes. A proved loop ends, and nothing says that the input does: the turns are counted
+// to a number that no run uses up.
 fn texts<R: Read, W: Write>(reader: &mut R, writer: &mut W) -> io::Result<()> {
     say(writer, b"\ntexts\n")?;
     let mut buf = [0u8; 4096];
     for _ in 0..u64::MAX {
-        if !next(reader, writer, &mut buf)? {
+        let Some(n) = reading::read_behind_length::<2, R>(reader, &mut buf)? else {
             break;
-        }
+        };
+        show_text(writer, &buf[..n])?;
     }
     Ok(())
 }
