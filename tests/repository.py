@@ -29,6 +29,8 @@ PASSED_ON = {
     "Rattle.std.proofs.Common": [module for module in MEANING if module != "mathlib.Core.Option"],
     **{f"Rattle.std.proofs.Math.{module.rpartition('.')[2]}": [module] for module in MEANING if module not in ("Prim.Native.Nat", "mathlib.Core.List")},
 }
+# Rust's Option, that of the code, may be taken where nothing is of the definition's: a file has one of the two.
+RUSTS = {"Option": ("Rattle.std.specs.Prelude", "Rattle.std.proofs.Common")}
 # For each symbol the modules that it may be taken from.
 HOMES = {name: [module, *(other for other, passed in PASSED_ON.items() if module in passed)] for module, names in MEANING.items() for name in names}
 
@@ -159,6 +161,13 @@ def holes(root):
             yield f"{path}:{line(text, found.start())}: {found.group(0).strip()}"
 
 
+def rusts(path, text, module, words):
+    """Whether a file outside the definition takes a symbol of Rust's, and none of the definition's with that name."""
+    if words[0] != words[-1] or module not in RUSTS.get(words[-1], ()) or path.startswith("crates/definition/"):
+        return False
+    return not re.search(rf"\buse\s+(?:{'|'.join(map(re.escape, HOMES[words[-1]]))})\.\{{[^}}]*\b{words[-1]}\b", text)
+
+
 def symbols(root):
     """The symbols of contracts mean what the library says."""
     imports = r"\buse\s+([^\s{};]+)\.\{([^}]*)\}"
@@ -166,6 +175,8 @@ def symbols(root):
         for found in re.finditer(imports, text):
             for words in (item.split() for item in found.group(2).split(",") if item.split()):
                 name = words[-1]
+                if rusts(path, text, found.group(1), words):
+                    continue
                 if name in HOMES and (found.group(1) not in HOMES[name] or words[0] != name):
                     yield f"{path}:{line(text, found.start())}: {' '.join(words)} is taken from {found.group(1)}"
     for path, text in proofs(root):

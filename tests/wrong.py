@@ -67,8 +67,9 @@ def rounds(tries):
 
 
 def changed(text, edit):
-    """A file's text with the edit made in its function."""
-    found = re.search(rf"^ *(pub(\(crate\))? )?(extern \"C\" )?fn {edit.function}[(<].*?^ ?}}", text, flags=re.M | re.S)
+    """A file's text with the edit made in its function: of several that have its name, as impls of From have, in the one that has the texts."""
+    named = list(re.finditer(rf"^ *(pub(\(crate\))? )?(extern \"C\" )?fn {edit.function}[(<].*?^ ?}}", text, flags=re.M | re.S))
+    found = next((one for one in named if all(old in one.group(0) for old, _ in edit.pairs)), named[0] if named else None)
     if not found or not edit.pairs:
         raise ValueError(f"no function {edit.function}, or nothing to change")
     body = found.group(0)

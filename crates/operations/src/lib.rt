@@ -110,9 +110,7 @@ fn dispatch(
     match parsed {
         Parsed::Raise(r) => raise(register, ends, call, r, answer),
         Parsed::Clear(c) => Ok(clear(register, ends, call, c, answer)),
-        Parsed::Plain(action, p) => Ok(state::plain(
-            register, ends, call, p, action, answer,
-        )),
+        Parsed::Plain(action, p) => Ok(state::plain(register, ends, call, p, action, answer)),
         Parsed::Policy(deed, p) => Ok(admin::apply_admin_action(
             register, ends, call, p, deed, answer,
         )),

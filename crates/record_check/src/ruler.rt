@@ -26,7 +26,9 @@ pub struct Ruler {
 }
 
 impl Ruler {
-    pub fn new() -> Ruler {
+    pub fn new() -> Ruler
+        ensures { result.bytes ≡ ruler_bytes }
+    {
         let mut bytes = [255; RULER];
         bytes[..Record::DETAILS].fill(HIGH);
         Ruler { bytes }
