@@ -82,7 +82,7 @@ pub(crate) fn trim_start(s: &[u8]) -> usize
     start
 }
 
-// The length of s without the white space at its end.
+// The length of s without the white space at its end. Two places move, by 1 to 3 bytes a turn: no iterator goes like that.
 pub(crate) fn trim_end(s: &[u8]) -> usize
     ensures { (result ≤ length s.now) × (end_from 0 s.now ≡ take result s.now) }
 {

@@ -23,7 +23,7 @@ use register::{Chain, Ends};
 
 // ---- one chain
 
-// Whether a payload is one of its chain.
+// Whether a payload is one of its chain. By the chain, and no closure that `walk` is given: four of them would hold the ruler, and say the same.
 fn payload_ok(chain: Chain, p: &[u8], ruler: &Ruler) -> bool
     requires { length p.now ≡ payload_width }
     ensures { result ≡ holds chain p.now }
