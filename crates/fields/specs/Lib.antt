@@ -1,7 +1,5 @@
-pub mod Cursor
-pub mod CursorLaws
-pub mod Part
-pub mod PartLaws
+pub mod Reading
+pub mod ReadingLaws
 pub mod Moved
 pub mod MovedLaws
 pub mod BytesLaws

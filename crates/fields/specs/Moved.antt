@@ -1,29 +1,9 @@
--- Where a part starts in its call, and what was read of it in the call's places.
-use Rattle.std.specs.Prelude.{ℕ, ◌+◌, ◌≤◌, ◌≡◌, [], length, drop}
-use Rattle.octets.specs.Bytes.{Bytes}
+-- What was read of the part of a call from a place on, in the call's places.
+use Rattle.std.specs.Prelude.{ℕ, ◌+◌, None, Some}
 use Rattle.model.specs.declared.Span.{Span}
 use Rattle.model.specs.Meaning.{OptSpan}
-use Rattle.std.specs.Prelude.{None, Some}
 use Rattle.model.specs.declared.CauseSpan.{CauseSpan}
 use Rattle.model.specs.declared.CauseSpan.TheVariants.{Name, Other}
-use Rattle.fields.specs.declared.Cursor.{Cursor}
-use Rattle.fields.specs.declared.Cursor.TheVariants.{At, Fault}
-
--- what is left of a call; after a fault nothing
-abbrev pub left_at : Bytes → Cursor → Bytes
-left_at call (At i) = drop i call
-left_at call (Fault k) = []
-
--- the part from i on is what is left of a call
-pub record Starts (call : Bytes) (at : Cursor) (i : ℕ) : Type 0 where
-  pub left : drop i call ≡ left_at call at
-  pub inside : i ≤ length call
-
--- the first fault wins; a place of the part from i on is moved by i
-abbrev pub cursor_on : Cursor → ℕ → Cursor → Cursor
-cursor_on (Fault k) i next = Fault k
-cursor_on (At j) i (Fault k) = Fault k
-cursor_on (At j) i (At n) = At (i + n)
 
 abbrev pub span_on : ℕ → Span → Span
 span_on i p = record { at = i + p.at; len = p.len }

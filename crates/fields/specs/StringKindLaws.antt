@@ -1,21 +1,29 @@
 -- A string by its kind is its bytes, and the kind's test of them.
-use Rattle.std.specs.Prelude.{ℕ, ◌≡◌, refl, cond}
-use Rattle.std.proofs.Common.{◌∙◌}
+use Rattle.std.specs.Prelude.{ℕ, ◌≡◌, true, false}
 use Rattle.octets.specs.Bytes.{Bytes}
-use Rattle.definition.specs.Reader.{Out, got, bad, ◌>>=◌, next, give, refuse, blob, text}
-use Rattle.fields.specs.Cursor.{Reads}
+use Rattle.definition.specs.Reader.{blob, text}
+use Rattle.model.specs.Meaning.{part, within}
+use Rattle.model.specs.declared.Span.{Span}
+use Rattle.model.specs.declared.refusal.Refusal.{Refusal}
+use Rattle.model.specs.declared.refusal.Refusal.TheVariants.{Utf8}
+use Rattle.fields.specs.Reading.{Gives, Refuses}
+use Rattle.fields.specs.ReadingLaws.{step, stops, passes, done, tested, fails}
 use Rattle.fields.specs.StringKind.{string_by, obeyed}
-use Rattle.fields.specs.declared.Cursor.{Cursor}
-use Rattle.fields.specs.declared.Cursor.TheVariants.{At, Fault}
 use Rattle.fields.specs.declared.StringKind.{StringKind}
 use Rattle.fields.specs.declared.StringKind.TheVariants.{Text, Blob}
 
-next_give : {A : Type 0} (o : Out A) → next o give ≡ o
-next_give (got a s) = refl
-next_give (bad n) = refl
+module _ {s : Bytes} {i : ℕ} {limit : ℕ} where
+  pub obeying : {p : Span} {n : ℕ} (kind : StringKind) → Gives s i (blob limit) part (λ t. within t limit) p n → obeyed kind (part s p) ≡ true → Gives s i (string_by kind limit) part (λ t. within t limit) p n
+  unfolding text
+  obeying Text read h = step _ read (tested _ h (done read.lies))
+  obeying Blob read h = read
 
-pub ruled : {call : Bytes} {p q : Cursor} {v : Bytes} (kind : StringKind) (limit : ℕ) → Reads call p (◌>>=◌ (blob limit) (λ t. cond (obeyed kind t) (give t) (refuse 27))) v q → Reads call p (string_by kind limit) v q
-unfolding text ◌>>=◌
-ruled Text limit a = a
-ruled {p = At i} Blob limit a = record { out = a.out ∙ next_give _ }
-ruled {p = Fault k} Blob limit a = record { out = a.out }
+  pub disobeying : {p : Span} {n : ℕ} (kind : StringKind) → Gives s i (blob limit) part (λ t. within t limit) p n → obeyed kind (part s p) ≡ false → Refuses s i (string_by kind limit) Utf8
+  unfolding text
+  disobeying Text read h = passes _ read (fails _ h)
+  disobeying Blob read h = cc
+
+pub string_stops : {s : Bytes} {i : ℕ} {e : Refusal} (kind : StringKind) (limit : ℕ) → Refuses s i (blob limit) e → Refuses s i (string_by kind limit) e
+unfolding text
+string_stops Text limit a = stops _ a
+string_stops Blob limit a = a

@@ -1,70 +1,32 @@
 // The fields of a call: numbers, choices, strings, options and causes, read one behind the other from its bytes.
 //
-// Each field has two functions. `read_number` and its like (src/part.rt) receive a part of the call, what is left of it, and read the field
-// at the part's start: no place of the call comes into it. `number_at` and its like keep the places. They are told where the reading of the
-// call stands, at a place or at its first fault; they lend what is left from there to the reader of the part, and carry its answer over to
-// the call's places. A fault is handed on, so that fields follow one another without a test between them, and the first fault wins.
+// Each field has two readers. `read_number` and its like (src/part.rt) receive a part of the call, what is left of it, and read the field
+// at the part's start: no place of the call comes into them. The methods of `Reader` keep the places: they lend what is left of the call to
+// the reader of the part, carry its answer over to the call's places, and go on behind the field. The first refusal ends a row of fields.
 //
 // Nothing is copied: a string is a span, its place and its length. Each contract says that the function does what the definition's reader of
 // the same name does (Reader.antt), and that a span lies in what was lent, within its limit: who looks at its bytes later tests nothing.
-// `Takes` in specs/Part.antt is that promise on a part's bytes, `Says` in specs/Cursor.antt on a call's. specs/CursorLaws.antt has the laws by
-// which the readers of a row of fields are proved: `step`, `tested`, `done`; specs/PartLaws.antt those that carry an answer over.
+// `Finds` in specs/Part.antt is that promise on a part's bytes, `Reads` in specs/Reading.antt on a call's. specs/RowLaws.antt has the laws by
+// which the readers of a row of fields are proved: `along`, `step`, `stops`; specs/MovedLaws.antt those that carry an answer over.
 #![tactic(auto)]
 
-ghost use Rattle.std.specs.Prelude.{◌≡◌, ◌+◌, ◌^◌, ◌≤◌, ◌<◌, length};
+ghost use Rattle.std.specs.Prelude.{◌≡◌, ◌+◌, ◌^◌, ◌≤◌, ◌<◌, length, IsTrue, ◌↔◌};
 ghost use Rattle.definition.specs.Limits.{text_limit};
-ghost use Rattle.definition.specs.Reader.{bytes, number, choice, text, optional, cause_text};
+ghost use Rattle.definition.specs.Reader.{number, choice, text, optional, cause_text};
 ghost use Rattle.definition.specs.Parse.{raise_text};
-ghost use Rattle.model.specs.Meaning.{cause_part, cause_within};
-ghost use Rattle.fields.specs.Cursor.{refused_unless, bytes_from, Reads, Says, SaysString, SaysOption};
-ghost use Rattle.fields.specs.Part.{reached};
-ghost use Rattle.fields.specs.Moved.{Starts, cursor_on, span_on, option_on, option_start, cause_on, cause_start};
+ghost use Rattle.model.specs.Meaning.{part as part_of, opt_part, cause_part, within, opt_within, cause_within};
+ghost use Rattle.fields.specs.Reading.{Reads, left, itself, of_width, between, flag, anywhere};
 ghost use Rattle.fields.specs.StringKind.{string_by};
 
-use model::{CauseSpan, Span};
+use model::{CauseSpan, Refusal, Span};
+use std::marker::Model;
 
+mod moved;
 mod part;
 
+use moved::Moved;
+pub use moved::Read;
 pub use part::{read_cause, read_choice, read_number, read_option, read_raise_text, read_text};
-
-// Where the reading of a slice stands: at a place, or at its first fault, by its number.
-#[derive(Clone, Copy)]
-pub enum Cursor {
-    At(usize),
-    Fault(u8),
-}
-
-// What a reader answers: a value, and where the reading stands after it; the value means something where that is a place. Places count
-// from the start of the slice that the reader received.
-#[derive(Clone, Copy)]
-pub struct NumRead {
-    pub value: u64,
-    pub next: Cursor,
-}
-
-#[derive(Clone, Copy)]
-pub struct ByteRead {
-    pub value: u8,
-    pub next: Cursor,
-}
-
-#[derive(Clone, Copy)]
-pub struct SpanRead {
-    pub span: Span,
-    pub next: Cursor,
-}
-
-#[derive(Clone, Copy)]
-pub struct OptSpanRead {
-    pub span: Option<Span>,
-    pub next: Cursor,
-}
-
-#[derive(Clone, Copy)]
-pub struct CauseRead {
-    pub cause: CauseSpan,
-    pub next: Cursor,
-}
 
 // Which strings a field takes: those in UTF-8, or any bytes.
 #[derive(Clone, Copy)]
@@ -73,185 +35,116 @@ pub enum StringKind {
     Blob,
 }
 
-// A fault with this number, unless a test held or there is a fault already.
-pub fn refuse_unless(at: Cursor, ok: bool, number: u8) -> Cursor
-    ensures { result ≡ refused_unless at ok number }
-{
-    if ok {
-        return at;
-    }
-    match at {
-        Cursor::At(_) => Cursor::Fault(number),
-        Cursor::Fault(k) => Cursor::Fault(k),
-    }
+// A call, and how many of its bytes are read.
+#[derive(Drop)]
+pub struct Reader<'a> {
+    call: &'a [u8],
+    at: usize,
 }
 
-// ---- a part of the call: where it starts, and what was read of it in the call's places
+impl<'a> Model for Reader<'a> {
+    ghost use Rattle.std.specs.Prelude.{◌≤◌, length};
+    ghost use Rattle.fields.specs.Reading.{Reading};
 
-// Where reading goes on. After a fault, as past the end, nothing is left.
-fn start(call: &[u8], at: Cursor) -> usize
-    ensures { Starts call.now at result }
-{
-    match at {
-        Cursor::At(i) => {
-            if i < call.len() {
-                return i;
-            }
-            call.len()
-        }
-        Cursor::Fault(_) => call.len(),
+    ghost Value = { Reading };
+
+    ghost view = { λ r. record { call = r.call.now; at = r.at } };
+
+    ghost invariant = { λ r. r.at ≤ length r.call.now };
+}
+
+impl<'a> Reader<'a> {
+    // Reads a call from a place on.
+    pub fn new(call: &'a [u8], at: usize) -> Reader<'a>
+        requires { at ≤ length call.now }
+        ensures call { result.call ≡ call.now }
+        ensures place { result.at ≡ at }
+    {
+        Reader { call, at }
     }
-}
 
-// Where the reading stands that was at `at`, and in the part from i on is at `next`.
-fn cursor_on(at: Cursor, i: usize, next: Cursor) -> Cursor
-    requires { i + reached next < 2 ^ 64 }
-    ensures { result ≡ cursor_on at i next }
-{
-    match at {
-        Cursor::Fault(k) => Cursor::Fault(k),
-        Cursor::At(_) => match next {
-            Cursor::Fault(k) => Cursor::Fault(k),
-            Cursor::At(n) => Cursor::At(i + n),
-        },
+    // Whether all bytes of the call are read.
+    pub fn is_done(&self) -> bool
+        ensures { IsTrue result ↔ length self.now.call ≤ self.now.at }
+    {
+        self.call.len() <= self.at
     }
-}
 
-// A span of the part from i on, in the places of the whole.
-fn span_on(p: Span, i: usize) -> Span
-    requires { i + p.at < 2 ^ 64 }
-    ensures { result ≡ span_on i p }
-{
-    Span {
-        at: i + p.at,
-        len: p.len,
+    // What is left of the call.
+    fn left(&self) -> &[u8]
+        ensures value { result.now ≡ left self.now }
+        ensures place { self.now.at + length result.now ≡ length self.now.call }
+    {
+        &self.call[self.at..]
     }
-}
 
-fn option_on(p: Option<Span>, i: usize) -> Option<Span>
-    requires { i + option_start p < 2 ^ 64 }
-    ensures { result ≡ option_on i p }
-{
-    match p {
-        None => None,
-        Some(q) => Some(span_on(q, i)),
+    // What was read of the part that is left, in the call's places; the reading goes on behind it.
+    fn pass<T: Moved>(&mut self, read: Read<T>) -> T
+        requires inside { self.old.at + read.next ≤ length self.old.call }
+        requires start { self.old.at + T.start read.value ≤ length self.old.call }
+        ensures value { result ≡ T.on self.old.at read.value }
+        ensures call { self.new.call ≡ self.old.call }
+        ensures place { self.new.at ≡ self.old.at + read.next }
+    {
+        let Read { value, next } = read.behind(self.at);
+        self.at = next;
+        value
     }
-}
 
-fn cause_on(p: CauseSpan, i: usize) -> CauseSpan
-    requires { i + cause_start p < 2 ^ 64 }
-    ensures { result ≡ cause_on i p }
-{
-    match p {
-        CauseSpan::Name(k) => CauseSpan::Name(k),
-        CauseSpan::Other(q) => CauseSpan::Other(span_on(q, i)),
+    // A number of n bytes.
+    pub fn number(&mut self, n: usize) -> Result<u64, Refusal>
+        requires { n ≤ 8 }
+        ensures { Reads self.old self.new (number n) itself (of_width n) result }
+    {
+        let read = read_number(self.left(), n)?;
+        Ok(self.pass(read))
     }
-}
 
-// ---- fields on from a place of the call
-
-// The next n bytes.
-pub(crate) fn bytes_at(call: &[u8], at: Cursor, n: usize) -> SpanRead
-    ensures says_string { SaysString call.now at (bytes n) (bytes_from at n) result }
-    ensures next_in_bounds { reached result.next ≤ length call.now }
-{
-    let i = start(call, at);
-    let r = part::read_bytes(&call[i..], n);
-    let p = r.span;
-    let next = r.next;
-    SpanRead {
-        span: span_on(p, i),
-        next: cursor_on(at, i, next),
+    // A byte from lo to hi.
+    pub fn choice(&mut self, lo: u8, hi: u8) -> Result<u8, Refusal>
+        ensures { Reads self.old self.new (choice lo hi) itself (between lo hi) result }
+    {
+        let read = read_choice(self.left(), lo, hi)?;
+        Ok(self.pass(read))
     }
-}
 
-// A number of n bytes.
-pub fn number_at(call: &[u8], at: Cursor, n: usize) -> NumRead
-    requires { n ≤ 8 }
-    ensures { Reads call.now at (number n) result.value result.next × (result.value < 256 ^ n) }
-{
-    let i = start(call, at);
-    let r = read_number(&call[i..], n);
-    let next = r.next;
-    NumRead {
-        value: r.value,
-        next: cursor_on(at, i, next),
+    // A flag: byte 0 or 1.
+    pub fn flag(&mut self) -> Result<bool, Refusal>
+        ensures { Reads self.old self.new (choice 0 1) flag anywhere result }
+    {
+        let byte = self.choice(0, 1)?;
+        Ok(byte == 1)
     }
-}
 
-// A byte from lo to hi.
-pub fn choice_at(call: &[u8], at: Cursor, lo: u8, hi: u8) -> ByteRead
-    ensures { Reads call.now at (choice lo hi) result.value result.next }
-{
-    let i = start(call, at);
-    let r = read_choice(&call[i..], lo, hi);
-    let next = r.next;
-    ByteRead {
-        value: r.value,
-        next: cursor_on(at, i, next),
+    // A string in UTF-8.
+    pub fn text(&mut self, limit: usize) -> Result<Span, Refusal>
+        ensures { Reads self.old self.new (text limit) part_of (λ s. within s limit) result }
+    {
+        let read = read_text(self.left(), limit)?;
+        Ok(self.pass(read))
     }
-}
 
-// A string by its kind.
-pub(crate) fn string_at(call: &[u8], at: Cursor, limit: usize, kind: StringKind) -> SpanRead
-    ensures says_string { SaysString call.now at (string_by kind limit) limit result }
-    ensures next_in_bounds { reached result.next ≤ length call.now }
-{
-    let i = start(call, at);
-    let r = part::read_string(&call[i..], limit, kind);
-    let p = r.span;
-    let next = r.next;
-    SpanRead {
-        span: span_on(p, i),
-        next: cursor_on(at, i, next),
+    // A raise's text: a string in UTF-8 of at most 120 code points.
+    pub fn raise_text(&mut self) -> Result<Span, Refusal>
+        ensures { Reads self.old self.new raise_text part_of (λ s. within s text_limit) result }
+    {
+        let read = read_raise_text(self.left())?;
+        Ok(self.pass(read))
     }
-}
 
-// A string in UTF-8.
-pub fn text_at(call: &[u8], at: Cursor, limit: usize) -> SpanRead
-    ensures { SaysString call.now at (text limit) limit result }
-{
-    string_at(call, at, limit, StringKind::Text)
-}
-
-// A raise's text: a string in UTF-8 of at most 120 code points.
-pub fn raise_text_at(call: &[u8], at: Cursor) -> SpanRead
-    ensures { SaysString call.now at raise_text text_limit result }
-{
-    let i = start(call, at);
-    let r = read_raise_text(&call[i..]);
-    let p = r.span;
-    let next = r.next;
-    SpanRead {
-        span: span_on(p, i),
-        next: cursor_on(at, i, next),
+    // An optional string: byte 0, or byte 1 and the string.
+    pub fn option(&mut self, limit: usize, kind: StringKind) -> Result<Option<Span>, Refusal>
+        ensures { Reads self.old self.new (optional (string_by kind limit)) opt_part (λ s. opt_within s limit) result }
+    {
+        let read = read_option(self.left(), limit, kind)?;
+        Ok(self.pass(read))
     }
-}
 
-// An optional string: byte 0, or byte 1 and the string.
-pub fn option_at(call: &[u8], at: Cursor, limit: usize, kind: StringKind) -> OptSpanRead
-    ensures { SaysOption call.now at (optional (string_by kind limit)) limit result }
-{
-    let i = start(call, at);
-    let r = read_option(&call[i..], limit, kind);
-    let p = r.span;
-    let next = r.next;
-    OptSpanRead {
-        span: option_on(p, i),
-        next: cursor_on(at, i, next),
-    }
-}
-
-// A cause: a string in UTF-8, and the cause that it is.
-pub fn cause_at(call: &[u8], at: Cursor) -> CauseRead
-    ensures { Says call.now at cause_text cause_part cause_within result.cause result.next }
-{
-    let i = start(call, at);
-    let r = read_cause(&call[i..]);
-    let p = r.cause;
-    let next = r.next;
-    CauseRead {
-        cause: cause_on(p, i),
-        next: cursor_on(at, i, next),
+    // A cause: a string in UTF-8, and the cause that it is.
+    pub fn cause(&mut self) -> Result<CauseSpan, Refusal>
+        ensures { Reads self.old self.new cause_text cause_part cause_within result }
+    {
+        let read = read_cause(self.left())?;
+        Ok(self.pass(read))
     }
 }

@@ -4,3 +4,4 @@ pub mod CaseLaws
 pub mod Opening
 pub mod OpeningLaws
 pub mod PartLaws
+pub mod FlagLaws

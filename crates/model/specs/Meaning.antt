@@ -1,5 +1,5 @@
 -- What places in a call mean: offsets and lengths become the bytes there.
-use Rattle.std.specs.Prelude.{ℕ, ◌+◌, ◌≤◌, ◌<◌, [], ◌++◌, length, take, drop, get_or}
+use Rattle.std.specs.Prelude.{ℕ, Bool, cond, ◌+◌, ◌≤◌, ◌<◌, [], ◌++◌, length, take, drop, get_or}
 use Rattle.std.proofs.Math.Option.{Option, none, some}
 use Rattle.octets.specs.Bytes.{Bytes}
 use Rattle.definition.specs.Limits.{short_limit, cause_limit, region_limit}
@@ -98,6 +98,12 @@ action_of Suppress = Value.suppressing
 abbrev pub deed_of : Deed → Value.Deed
 deed_of (Untimed x) = Value.untimed (action_of x)
 deed_of (Until end) = Value.until end
+
+-- ---- flags
+
+-- a flag is a byte of a call, 0 or 1
+abbrev pub flag_value : Bool → ℕ
+flag_value b = cond b 1 0
 
 -- ---- times
 

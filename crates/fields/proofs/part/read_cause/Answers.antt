@@ -1,44 +1,33 @@
 -- `read_cause` meets its contract: the string, and the cause that its bytes are.
-use mathlib.Core.Path.{◌≡◌, sym, ap, ◌∙◌}
-use mathlib.Core.Bool.{false}
 use native.Mathlib.Omega.{arith}
-use Rattle.octets.specs.Bytes.{Bytes}
+use Rattle.std.specs.Prelude.{refl}
 use Rattle.octets.specs.PartLaws.{part_length, part_part}
-use Rattle.definition.specs.Cause.{cause_of}
 use Rattle.definition.specs.Reader.{cause_text}
-use Rattle.std.specs.Prelude.{Option, Some}
-use Rattle.cause.specs.Meaning.{cause_value, cause_fits}
-use Rattle.cause.specs.declared.Cause.{Cause}
-use Rattle.fields.specs.CursorLaws.{done, step, tested}
-use Rattle.fields.specs.PartLaws.{begun, whole, refused_whole}
+use Rattle.cause.specs.Meaning.{cause_value}
+use Rattle.fields.specs.ReadingLaws.{step, stops, passes, done, handed}
 use Rattle.fields.proofs.part.read_cause.Goals as goal
 
--- what `cause_of` answered of the string, in the case that was found
-told : {s t : Bytes} {a q : Option Cause} → s ≡ t → (cause_value s a ≡ cause_of s) × cause_fits s a → a ≡ q → (cause_of t ≡ cause_value t q) × cause_fits t q
-told e h g = let k = rw (e, g) at h in (sym k.0, k.1)
+pub returns-in_err-string : goal.returns-in_err-string
+unfolding cause_text
+returns-in_err-string c = rw (handed _ c.from_residual.ensures) (stops _ c.in_err-string.ensures)
 
-pub overflow_add-result : goal.overflow_add-result
-overflow_add-result c =
-    let h = told c.part.ensures c.cause_of.ensures (c.in-Some-Other.is ∙ ap (λ (a : Cause). Some a) c.in-Some-Other.field-0-is) in
-    omega (arith, h.1, part_length c.args.left.now c.read_text-t.result.span.at c.read_text-t.result.span.len c.read_text-t.ensures.1.0)
-
-pub returns-in-Some-Name : goal.returns-in-Some-Name
+pub returns-in-No : goal.returns-in-No
 unfolding cause_text cause_value
-returns-in-Some-Name c =
-    let h = told c.part.ensures c.cause_of.ensures (c.in-Some-Name.is ∙ ap (λ (a : Cause). Some a) c.in-Some-Name.field-0-is) in
-    (whole (step _ (begun c.read_text-t.ensures.0) (rw h.0 done)) c.read_text-t.ensures.0.ends, h.1)
+returns-in-No c =
+    let h = rw c.part.ensures at c.in-No.ensures in
+    passes _ c.in_ok-string.ensures.0 (rw (← h.0) (record { out = refl }))
 
-pub returns-in-Some-Other : goal.returns-in-Some-Other
+pub returns-in-Name : goal.returns-in-Name
 unfolding cause_text cause_value
-returns-in-Some-Other c =
-    let h = told c.part.ensures c.cause_of.ensures (c.in-Some-Other.is ∙ ap (λ (a : Cause). Some a) c.in-Some-Other.field-0-is) in
-    let l = part_length c.args.left.now c.read_text-t.result.span.at c.read_text-t.result.span.len c.read_text-t.ensures.1.0 in (
-      whole (step _ (begun c.read_text-t.ensures.0) (rw (h.0, part_part c.args.left.now c.read_text-t.result.span.at c.in-Some-Other.x c.in-Some-Other.n c.read_text-t.result.span.len (omega arith)) done)) c.read_text-t.ensures.0.ends,
-      (omega arith, omega arith),
-    )
+returns-in-Name c =
+    let h = rw c.part.ensures at c.in-Name.ensures in
+    (step _ c.in_ok-string.ensures.0 (rw (← h.0) (done h.1)), c.in_ok-string.ensures.1)
 
-pub returns-in-None : goal.returns-in-None
+pub returns-in-Other : goal.returns-in-Other
 unfolding cause_text cause_value
-returns-in-None c =
-    let h = told c.part.ensures c.cause_of.ensures c.in-None.is in
-    (rw c.refuse_unless.ensures (refused_whole false 28 c.read_text-t.ensures.0 (step _ (begun c.read_text-t.ensures.0) (rw h.0 (tested false 28 done)))), omega arith)
+returns-in-Other c =
+    let h = rw c.part.ensures at c.in-Other.ensures in
+    let p = c.in_ok-string.field-0.value in
+    let w = c.in_ok-string.ensures.0.lies in
+    let l = part_length c.args.left.now p.at p.len w.0 in
+    (step _ c.in_ok-string.ensures.0 (rw (← h.0, part_part c.args.left.now p.at c.in-Other.at c.in-Other.len p.len (omega arith)) (done (omega (arith, w.0), omega (arith, w.1)))), c.in_ok-string.ensures.1)
