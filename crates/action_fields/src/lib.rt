@@ -7,20 +7,21 @@
 // audit event relies on these.
 #![tactic(auto)]
 
+ghost use Rattle.std.specs.Prelude.{◌≡◌, IfOk};
 ghost use Rattle.definition.specs.Parse.{plain_fields, scope, actor, request, verdict, policy_from, policy_fields};
-ghost use Rattle.fields.specs.Cursor.{Says};
+ghost use Rattle.fields.specs.Reading.{Reads};
 ghost use Rattle.action_fields.specs.Meaning.{plain_value, scope_value, actor_value, request_value, verdict_value, policy_value};
 ghost use Rattle.action_fields.specs.Meaning.{plain_within, scope_within, ActorWithin, RequestWithin, verdict_within, PolicyWithin};
 
-use fields::{Cursor, StringKind};
-use model::{Record, Span};
+use fields::{Reader, StringKind};
+use model::{Record, Refusal, Span};
 
-// An acknowledgement or a suppression without a policy. The flag is 0 or 1.
+// An acknowledgement or a suppression without a policy.
 #[derive(Clone, Copy)]
 pub struct Plain {
     pub time: u64,
     pub id: Span,
-    pub authorised: u8,
+    pub authorised: bool,
 }
 
 // What is asked for: one alarm by its id, the alarms of a tenant, or all.
@@ -48,11 +49,11 @@ pub struct Request {
     pub correlation: Option<Span>,
 }
 
-// What the authoriser answered. The flags are 0 or 1.
+// What the authoriser answered.
 #[derive(Clone, Copy)]
 pub struct Verdict {
-    pub critical_allowed: u8,
-    pub authorised: u8,
+    pub critical_allowed: bool,
+    pub authorised: bool,
     pub denial: Span,
 }
 
@@ -63,195 +64,104 @@ pub struct Policy {
     pub verdict: Verdict,
 }
 
-// What a reader answers: a value, and where the reading stands after it.
-#[derive(Clone, Copy)]
-pub struct PlainRead {
-    pub plain: Plain,
-    pub next: Cursor,
-}
-
-#[derive(Clone, Copy)]
-struct ScopeRead {
-    scope: Scope,
-    next: Cursor,
-}
-
-#[derive(Clone, Copy)]
-struct ActorRead {
-    actor: Actor,
-    next: Cursor,
-}
-
-#[derive(Clone, Copy)]
-struct RequestRead {
-    request: Request,
-    next: Cursor,
-}
-
-#[derive(Clone, Copy)]
-struct VerdictRead {
-    verdict: Verdict,
-    next: Cursor,
-}
-
-#[derive(Clone, Copy)]
-pub struct PolicyRead {
-    pub policy: Policy,
-    pub next: Cursor,
-}
-
 // ---- 3 acknowledge, 4 suppress
 
-// The fields of operations 3 and 4 at a place.
-pub fn plain_at(call: &[u8], at: Cursor) -> PlainRead
-    ensures { Says call.now at plain_fields plain_value plain_within result.plain result.next }
+// The fields of operations 3 and 4.
+#[tactic(auto, using(fields::specs::ReadingLaws::row_is), unfolding(definition::specs::Parse::plain_fields))]
+pub fn read_plain(reader: &mut Reader) -> Result<Plain, Refusal>
+    ensures { Reads reader.old reader.new plain_fields plain_value plain_within result }
 {
-    let time = fields::number_at(call, at, 8);
-    let at = time.next;
-    let id = fields::text_at(call, at, Record::SHORT);
-    let at = id.next;
-    let id = id.span;
-    let flag = fields::choice_at(call, at, 0, 1);
-    let at = flag.next;
-    PlainRead {
-        plain: Plain {
-            time: time.value,
-            id: id,
-            authorised: flag.value,
-        },
-        next: at,
-    }
+    let time = reader.number(8)?;
+    let id = reader.text(Record::SHORT)?;
+    let authorised = reader.flag()?;
+    Ok(Plain {
+        time,
+        id,
+        authorised,
+    })
 }
 
 // ---- 5, 6 the same with policy, and 13
 
 // A kind, and the string of the kinds 0 and 1.
-fn scope_at(call: &[u8], at: Cursor) -> ScopeRead
-    ensures { Says call.now at scope scope_value scope_within result.scope result.next }
+#[tactic(auto, using(crate::proofs::EachScope::scopes), unfolding(definition::specs::Parse::scope, definition::specs::Reader::into))]
+fn read_scope(reader: &mut Reader) -> Result<Scope, Refusal>
+    ensures { Reads reader.old reader.new scope scope_value scope_within result }
 {
-    let kind = fields::choice_at(call, at, 0, 2);
-    let at = kind.next;
-    let kind = kind.value;
-    match kind {
-        0 => {
-            let id = fields::text_at(call, at, Record::SHORT);
-            let at = id.next;
-            let id = id.span;
-            ScopeRead {
-                scope: Scope::Alarm(id),
-                next: at,
-            }
-        }
-        1 => {
-            let tenant = fields::text_at(call, at, Record::SHORT);
-            let at = tenant.next;
-            let tenant = tenant.span;
-            ScopeRead {
-                scope: Scope::Tenant(tenant),
-                next: at,
-            }
-        }
-        _ => ScopeRead {
-            scope: Scope::Global,
-            next: at,
-        },
-    }
+    let scope = match reader.choice(0, 2)? {
+        0 => Scope::Alarm(reader.text(Record::SHORT)?),
+        1 => Scope::Tenant(reader.text(Record::SHORT)?),
+        _ => Scope::Global,
+    };
+    Ok(scope)
 }
 
 // Id, principal and tenant, behind the call's time.
-fn actor_at(call: &[u8], at: Cursor, time: u64) -> ActorRead
-    ensures { Says call.now at (actor time) actor_value ActorWithin result.actor result.next }
+#[tactic(auto, using(fields::specs::ReadingLaws::row_is), unfolding(definition::specs::Parse::actor))]
+fn read_actor(reader: &mut Reader, time: u64) -> Result<Actor, Refusal>
+    ensures reads { Reads reader.old reader.new (actor time) actor_value ActorWithin result }
+    ensures time { IfOk result (λ a. a.time ≡ time) }
 {
-    let id = fields::text_at(call, at, Record::SHORT);
-    let at = id.next;
-    let id = id.span;
-    let principal = fields::text_at(call, at, Record::SHORT);
-    let at = principal.next;
-    let principal = principal.span;
-    let tenant = fields::option_at(call, at, Record::SHORT, StringKind::Text);
-    let at = tenant.next;
-    let tenant = tenant.span;
-    ActorRead {
-        actor: Actor {
-            time: time,
-            id: id,
-            principal: principal,
-            tenant: tenant,
-        },
-        next: at,
-    }
+    let id = reader.text(Record::SHORT)?;
+    let principal = reader.text(Record::SHORT)?;
+    let tenant = reader.option(Record::SHORT, StringKind::Text)?;
+    Ok(Actor {
+        time,
+        id,
+        principal,
+        tenant,
+    })
 }
 
-fn request_at(call: &[u8], at: Cursor) -> RequestRead
-    ensures { Says call.now at request request_value RequestWithin result.request result.next }
+#[tactic(auto, using(fields::specs::ReadingLaws::row_is), unfolding(definition::specs::Parse::request))]
+fn read_request(reader: &mut Reader) -> Result<Request, Refusal>
+    ensures { Reads reader.old reader.new request request_value RequestWithin result }
 {
-    let reason = fields::text_at(call, at, Record::TEXT);
-    let at = reason.next;
-    let reason = reason.span;
-    let scope = scope_at(call, at);
-    let at = scope.next;
-    let scope = scope.scope;
-    let correlation = fields::option_at(call, at, Record::SHORT, StringKind::Text);
-    let at = correlation.next;
-    let correlation = correlation.span;
-    RequestRead {
-        request: Request {
-            reason: reason,
-            scope: scope,
-            correlation: correlation,
-        },
-        next: at,
-    }
+    let reason = reader.text(Record::TEXT)?;
+    let scope = read_scope(reader)?;
+    let correlation = reader.option(Record::SHORT, StringKind::Text)?;
+    Ok(Request {
+        reason,
+        scope,
+        correlation,
+    })
 }
 
-fn verdict_at(call: &[u8], at: Cursor) -> VerdictRead
-    ensures { Says call.now at verdict verdict_value verdict_within result.verdict result.next }
+#[tactic(auto, using(fields::specs::ReadingLaws::row_is), unfolding(definition::specs::Parse::verdict))]
+fn read_verdict(reader: &mut Reader) -> Result<Verdict, Refusal>
+    ensures { Reads reader.old reader.new verdict verdict_value verdict_within result }
 {
-    let critical = fields::choice_at(call, at, 0, 1);
-    let at = critical.next;
-    let authorised = fields::choice_at(call, at, 0, 1);
-    let at = authorised.next;
-    let denial = fields::text_at(call, at, Record::REGION);
-    let at = denial.next;
-    let denial = denial.span;
-    VerdictRead {
-        verdict: Verdict {
-            critical_allowed: critical.value,
-            authorised: authorised.value,
-            denial: denial,
-        },
-        next: at,
-    }
+    let critical_allowed = reader.flag()?;
+    let authorised = reader.flag()?;
+    let denial = reader.text(Record::REGION)?;
+    Ok(Verdict {
+        critical_allowed,
+        authorised,
+        denial,
+    })
 }
 
 // The fields of operations 5, 6 and 13 behind the call's time, and behind the end that 13 has.
-pub fn policy_from(call: &[u8], at: Cursor, time: u64) -> PolicyRead
-    ensures { Says call.now at (policy_from time) policy_value PolicyWithin result.policy result.next }
+#[tactic(auto, using(fields::specs::ReadingLaws::row_is), unfolding(definition::specs::Parse::policy_from))]
+pub fn read_policy_from(reader: &mut Reader, time: u64) -> Result<Policy, Refusal>
+    ensures reads { Reads reader.old reader.new (policy_from time) policy_value PolicyWithin result }
+    ensures time { IfOk result (λ p. p.actor.time ≡ time) }
 {
-    let actor = actor_at(call, at, time);
-    let at = actor.next;
-    let actor = actor.actor;
-    let request = request_at(call, at);
-    let at = request.next;
-    let request = request.request;
-    let verdict = verdict_at(call, at);
-    let at = verdict.next;
-    let verdict = verdict.verdict;
-    PolicyRead {
-        policy: Policy {
-            actor: actor,
-            request: request,
-            verdict: verdict,
-        },
-        next: at,
-    }
+    let actor = read_actor(reader, time)?;
+    let request = read_request(reader)?;
+    let verdict = read_verdict(reader)?;
+    Ok(Policy {
+        actor,
+        request,
+        verdict,
+    })
 }
 
-// The fields of operations 5 and 6 at a place.
-pub fn policy_at(call: &[u8], at: Cursor) -> PolicyRead
-    ensures { Says call.now at policy_fields policy_value PolicyWithin result.policy result.next }
+// The fields of operations 5 and 6.
+#[tactic(auto, using(fields::specs::ReadingLaws::row_is), unfolding(definition::specs::Parse::policy_fields))]
+pub fn read_policy(reader: &mut Reader) -> Result<Policy, Refusal>
+    ensures { Reads reader.old reader.new policy_fields policy_value PolicyWithin result }
 {
-    let time = fields::number_at(call, at, 8);
-    let at = time.next;
-    policy_from(call, at, time.value)
+    let time = reader.number(8)?;
+    read_policy_from(reader, time)
 }

@@ -148,7 +148,7 @@ pub fn plain(
         answer.new
         result }
 {
-    if p.authorised == 0 {
+    if !p.authorised {
         return not_authorized(answer, action);
     }
     plain_on(
