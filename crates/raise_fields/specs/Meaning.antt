@@ -2,11 +2,8 @@
 use Rattle.std.specs.Prelude.{Bool, true, ltb}
 use Rattle.octets.specs.Bytes.{Bytes}
 use Rattle.definition.specs.Limits.{short_limit, text_limit, details_limit}
-use Rattle.definition.specs.Reader.{Reader}
-use Rattle.definition.specs.Parse.{raise_body}
 use Rattle.definition.specs.Value.{RaiseHeadValue, RaiseValue, ClearValue}
 use Rattle.model.specs.Meaning.{part, opt_part, key_value, within, opt_within, KeyWithin}
-use Rattle.model.specs.declared.KeyFields.{KeyFields}
 use Rattle.model.specs.Meaning.{OptSpan}
 use Rattle.std.specs.Prelude.{None, Some}
 use Rattle.raise_fields.specs.declared.RaiseHead.{RaiseHead}
@@ -24,10 +21,6 @@ raise_value call r =
 
 abbrev pub clear_value : Bytes → Clear → ClearValue
 clear_value call r = record { time = r.time; type = part call r.alarm_type; key = key_value call r.key }
-
--- what a raise has behind its head and its key
-abbrev pub body_behind : Bytes → RaiseHead → KeyFields → Reader RaiseValue
-body_behind call h k = raise_body (head_value call h) (key_value call k)
 
 -- a region that is there has a byte
 abbrev pub named_span : OptSpan → Bool
