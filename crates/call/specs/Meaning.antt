@@ -1,21 +1,21 @@
 -- What the parser's answer means: document 01's number and values for each of its cases.
-use Rattle.std.specs.Prelude.{◌≡◌}
+use Rattle.std.specs.Prelude.{◌≡◌, Bool, true, cond, Result, Ok, Err}
 use Rattle.octets.specs.Bytes.{Bytes}
 use Rattle.definition.specs.Limits.{short_limit}
-use Rattle.definition.specs.Reader.{Reader}
 use Rattle.definition.specs.Value.{CallValue}
+use Rattle.definition.specs.Parse.{is_later}
 use Rattle.model.specs.Meaning.{opt_part, opt_within, action_of, deed_of}
-use Rattle.fields.specs.declared.Cursor.{Cursor}
-use Rattle.fields.specs.Cursor.{Says}
+use Rattle.model.specs.declared.Deed.TheVariants.{Until}
+use Rattle.model.specs.declared.refusal.Refusal.{Refusal}
+use Rattle.model.specs.Refusal.{refusal_number}
 use Rattle.action_fields.specs.Meaning.{plain_value, policy_value, plain_within, PolicyWithin}
 use Rattle.raise_fields.specs.Meaning.{raise_value, clear_value, RaiseWithin, ClearWithin}
 use Rattle.call.specs.declared.Parsed.{Parsed}
 use Rattle.call.specs.declared.Parsed.TheVariants as P
-use Rattle.call.specs.declared.CallRead.{CallRead}
 
 -- ---- values
 
--- operations 1 to 14, and the refusals
+-- operations 1 to 14
 abbrev pub meaning : Bytes → Parsed → CallValue
 meaning call (P.Raise r) = CallValue.raise (raise_value call r)
 meaning call (P.Clear r) = CallValue.clear (clear_value call r)
@@ -28,7 +28,20 @@ meaning call P.Counts = CallValue.counts
 meaning call P.Summary = CallValue.summary
 meaning call (P.TakeAudit n) = CallValue.take_audit n
 meaning call (P.Lift t) = CallValue.lift t
-meaning call (P.Refused n) = CallValue.refused n
+
+-- a suppression's end is later than the call's time, where a call has one
+abbrev pub later : Parsed → Bool
+later (P.Policy (Until end) p) = is_later end p.actor.time
+later _ = true
+
+-- what the fields of a call say: the definition refuses an end that is not later as soon as all fields are read
+abbrev pub said : Bytes → Parsed → CallValue
+said call p = cond (later p) (meaning call p) (CallValue.refused 34)
+
+-- a call, or a refusal by its number
+abbrev pub outcome_value : Bytes → Result Parsed Refusal → CallValue
+outcome_value call (Ok p) = meaning call p
+outcome_value call (Err e) = CallValue.refused (refusal_number e)
 
 -- ---- every part lies within the call and its limit
 
@@ -44,14 +57,13 @@ parsed_within call P.Counts = Unit
 parsed_within call P.Summary = Unit
 parsed_within call (P.TakeAudit n) = Unit
 parsed_within call (P.Lift t) = Unit
-parsed_within call (P.Refused n) = Unit
+
+abbrev pub outcome_within : Bytes → Result Parsed Refusal → Type 0
+outcome_within call (Ok p) = parsed_within call p
+outcome_within call (Err e) = Unit
 
 -- ---- the words of contracts
 
--- what is read on from a place is the call that the answer means
-abbrev pub SaysCall : Bytes → Cursor → Reader CallValue → CallRead → Type 0
-SaysCall call at fields answer = Says call at fields meaning parsed_within answer.parsed answer.next
-
--- an answer means a call or a refusal, every part of it within its limit
-abbrev pub Means : Bytes → Parsed → CallValue → Type 0
-Means call answer v = (meaning call answer ≡ v) × parsed_within call answer
+-- an outcome means a call or a refusal, every part of it within its limit
+abbrev pub Means : Bytes → Result Parsed Refusal → CallValue → Type 0
+Means call outcome v = (outcome_value call outcome ≡ v) × outcome_within call outcome

@@ -1,0 +1,2 @@
+pub mod EachOperation
+pub mod Whole
