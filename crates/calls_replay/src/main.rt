@@ -19,87 +19,55 @@ use std::io::{Read, Write};
 
 // ---- the words of a line: a blank, and a number or a string
 
-fn say<W: Write>(writer: &mut W, text: &[u8]) -> io::Result<()> {
-    writer.write_all(text)
+fn say<W: Write>(writer: &mut W, text: &str) -> io::Result<()> {
+    writer.write_all(text.as_bytes())
 }
 
 fn show_number<W: Write>(writer: &mut W, n: u64) -> io::Result<()> {
     write!(writer, " {n}")
 }
 
-// The word of an operation; 0 stands for a refusal.
-fn say_operation<W: Write>(writer: &mut W, op: u8) -> io::Result<()> {
-    match op {
-        1 => say(writer, b"raise"),
-        2 => say(writer, b"clear"),
-        3 => say(writer, b"acknowledge"),
-        4 => say(writer, b"suppress"),
-        5 => say(writer, b"acknowledge-policy"),
-        6 => say(writer, b"suppress-policy"),
-        7 => say(writer, b"expire"),
-        8 => say(writer, b"active"),
-        9 => say(writer, b"history"),
-        10 => say(writer, b"counts"),
-        11 => say(writer, b"summary"),
-        12 => say(writer, b"take-audit"),
-        13 => say(writer, b"suppress-until"),
-        14 => say(writer, b"lift"),
-        _ => say(writer, b"refused"),
-    }
-}
-
-// The word of an action, which one of two operations does.
+// The word of an action, one of two.
 fn say_action<W: Write>(
     writer: &mut W,
     action: Action,
-    acknowledge: u8,
-    suppress: u8,
+    acknowledge: &str,
+    suppress: &str,
 ) -> io::Result<()> {
     match action {
-        Action::Acknowledge => say_operation(writer, acknowledge),
-        Action::Suppress => say_operation(writer, suppress),
+        Action::Acknowledge => say(writer, acknowledge),
+        Action::Suppress => say(writer, suppress),
     }
 }
 
-fn show_numbered<W: Write>(writer: &mut W, op: u8, n: u64) -> io::Result<()> {
-    say_operation(writer, op)?;
+fn show_numbered<W: Write>(writer: &mut W, word: &str, n: u64) -> io::Result<()> {
+    say(writer, word)?;
     show_number(writer, n)
 }
 
-fn wide(x: u8) -> u64 {
-    x as u64
-}
-
 fn show_hex<W: Write>(writer: &mut W, s: &[u8]) -> io::Result<()> {
-    let mut i = 0;
-    while i < s.len() {
-        let byte = wide(s[i]);
+    for byte in s {
         write!(writer, "{byte:02x}")?;
-        i += 1;
     }
     Ok(())
 }
 
 // The n bytes of s from a on, or what stands in no expected line.
 fn show_bytes<W: Write>(writer: &mut W, s: &[u8], a: usize, n: usize) -> io::Result<()> {
-    if s.len() < a {
-        return say(writer, b"outside");
+    if s.len() < a || s.len() - a < n {
+        return say(writer, "outside");
     }
-    if s.len() - a < n {
-        return say(writer, b"outside");
-    }
-    let e = a + n;
-    show_hex(writer, &s[a..e])
+    show_hex(writer, &s[a..a + n])
 }
 
 fn show_string<W: Write>(writer: &mut W, call: &[u8], p: Span) -> io::Result<()> {
-    say(writer, b" x")?;
+    say(writer, " x")?;
     show_bytes(writer, call, p.at, p.len)
 }
 
 fn show_option<W: Write>(writer: &mut W, call: &[u8], o: Option<Span>) -> io::Result<()> {
     match o {
-        None => say(writer, b" -"),
+        None => say(writer, " -"),
         Some(p) => show_string(writer, call, p),
     }
 }
@@ -107,7 +75,7 @@ fn show_option<W: Write>(writer: &mut W, call: &[u8], o: Option<Span>) -> io::Re
 // The cause name at k.
 fn show_name<W: Write>(writer: &mut W, k: usize) -> io::Result<()> {
     if k >= 21 {
-        return say(writer, b"outside");
+        return say(writer, "outside");
     }
     let mut buf = [0u8; 28];
     let n = cause::put_name(&mut buf, 0, k);
@@ -116,7 +84,7 @@ fn show_name<W: Write>(writer: &mut W, k: usize) -> io::Result<()> {
 
 // A cause in its stored form.
 fn show_cause<W: Write>(writer: &mut W, call: &[u8], c: CauseSpan) -> io::Result<()> {
-    say(writer, b" x")?;
+    say(writer, " x")?;
     match c {
         CauseSpan::Name(k) => show_name(writer, k),
         CauseSpan::Other(p) => {
@@ -162,49 +130,40 @@ fn show_object<W: Write>(writer: &mut W, call: &[u8], o: AffectedObject) -> io::
 }
 
 fn show_places<W: Write>(writer: &mut W, call: &[u8], p: Places) -> io::Result<()> {
-    let tenant = p.tenant;
-    let slice = p.slice;
-    let region = p.region;
-    show_option(writer, call, tenant)?;
-    show_option(writer, call, slice)?;
-    show_option(writer, call, region)
+    show_option(writer, call, p.tenant)?;
+    show_option(writer, call, p.slice)?;
+    show_option(writer, call, p.region)
 }
 
 fn show_key<W: Write>(writer: &mut W, call: &[u8], k: KeyFields) -> io::Result<()> {
-    let c = k.cause;
-    let o = k.object;
-    let p = k.places;
-    show_cause(writer, call, c)?;
-    show_object(writer, call, o)?;
-    show_places(writer, call, p)
+    show_cause(writer, call, k.cause)?;
+    show_object(writer, call, k.object)?;
+    show_places(writer, call, k.places)
 }
 
 // ---- an operation: its name and its fields
 
 fn show_raise<W: Write>(writer: &mut W, call: &[u8], r: Raise) -> io::Result<()> {
     let h = r.head;
-    let k = r.key;
-    let d = r.details;
-    say_operation(writer, 1)?;
+    say(writer, "raise")?;
     show_number(writer, h.time)?;
     show_string(writer, call, h.id)?;
     show_string(writer, call, h.alarm_type)?;
     show_number(writer, h.severity as u64)?;
-    show_key(writer, call, k)?;
+    show_key(writer, call, r.key)?;
     show_string(writer, call, r.text)?;
-    show_option(writer, call, d)
+    show_option(writer, call, r.details)
 }
 
 fn show_clear<W: Write>(writer: &mut W, call: &[u8], c: Clear) -> io::Result<()> {
-    let k = c.key;
-    say_operation(writer, 2)?;
+    say(writer, "clear")?;
     show_number(writer, c.time)?;
     show_string(writer, call, c.alarm_type)?;
-    show_key(writer, call, k)
+    show_key(writer, call, c.key)
 }
 
 fn show_plain<W: Write>(writer: &mut W, call: &[u8], action: Action, p: Plain) -> io::Result<()> {
-    say_action(writer, action, 3, 4)?;
+    say_action(writer, action, "acknowledge", "suppress")?;
     show_number(writer, p.time)?;
     show_string(writer, call, p.id)?;
     show_number(writer, p.authorised as u64)
@@ -222,11 +181,11 @@ fn show_scope<W: Write>(writer: &mut W, call: &[u8], s: Scope) -> io::Result<()>
 fn show_deed<W: Write>(writer: &mut W, deed: Deed, time: u64) -> io::Result<()> {
     match deed {
         Deed::Untimed(action) => {
-            say_action(writer, action, 5, 6)?;
+            say_action(writer, action, "acknowledge-policy", "suppress-policy")?;
             show_number(writer, time)
         }
         Deed::Until(end) => {
-            show_numbered(writer, 13, time)?;
+            show_numbered(writer, "suppress-until", time)?;
             show_number(writer, end)
         }
     }
@@ -236,16 +195,13 @@ fn show_policy<W: Write>(writer: &mut W, call: &[u8], deed: Deed, p: Policy) -> 
     let a = p.actor;
     let r = p.request;
     let v = p.verdict;
-    let tenant = a.tenant;
-    let scope = r.scope;
-    let correlation = r.correlation;
     show_deed(writer, deed, a.time)?;
     show_string(writer, call, a.id)?;
     show_string(writer, call, a.principal)?;
-    show_option(writer, call, tenant)?;
+    show_option(writer, call, a.tenant)?;
     show_string(writer, call, r.reason)?;
-    show_scope(writer, call, scope)?;
-    show_option(writer, call, correlation)?;
+    show_scope(writer, call, r.scope)?;
+    show_option(writer, call, r.correlation)?;
     show_number(writer, v.critical_allowed as u64)?;
     show_number(writer, v.authorised as u64)?;
     show_string(writer, call, v.denial)
@@ -257,27 +213,33 @@ fn show_history<W: Write>(
     tenant: Option<Span>,
     slice: Option<Span>,
 ) -> io::Result<()> {
-    say_operation(writer, 9)?;
+    say(writer, "history")?;
     show_option(writer, call, tenant)?;
     show_option(writer, call, slice)
 }
 
 // ---- calls
 
-fn show<W: Write>(writer: &mut W, call: &[u8]) -> io::Result<()> {
-    match call::parse(call) {
+fn show_parsed<W: Write>(writer: &mut W, call: &[u8], parsed: Parsed) -> io::Result<()> {
+    match parsed {
         Parsed::Raise(r) => show_raise(writer, call, r),
         Parsed::Clear(c) => show_clear(writer, call, c),
         Parsed::Plain(action, p) => show_plain(writer, call, action, p),
         Parsed::Policy(deed, p) => show_policy(writer, call, deed, p),
-        Parsed::Expire(t) => show_numbered(writer, 7, t),
-        Parsed::Active(v) => show_numbered(writer, 8, v as u64),
+        Parsed::Expire(t) => show_numbered(writer, "expire", t),
+        Parsed::Active(v) => show_numbered(writer, "active", v as u64),
         Parsed::History { tenant, slice } => show_history(writer, call, tenant, slice),
-        Parsed::Counts => say_operation(writer, 10),
-        Parsed::Summary => say_operation(writer, 11),
-        Parsed::TakeAudit(n) => show_numbered(writer, 12, n as u64),
-        Parsed::Lift(t) => show_numbered(writer, 14, t),
-        Parsed::Refused(k) => show_numbered(writer, 0, k as u64),
+        Parsed::Counts => say(writer, "counts"),
+        Parsed::Summary => say(writer, "summary"),
+        Parsed::TakeAudit(n) => show_numbered(writer, "take-audit", n as u64),
+        Parsed::Lift(t) => show_numbered(writer, "lift", t),
+    }
+}
+
+fn show<W: Write>(writer: &mut W, call: &[u8]) -> io::Result<()> {
+    match call::parse(call) {
+        Ok(parsed) => show_parsed(writer, call, parsed),
+        Err(refusal) => show_numbered(writer, "refused", refusal as u64),
     }
 }
 
@@ -310,7 +272,7 @@ fn next<R: Read, W: Write>(reader: &mut R, writer: &mut W, buf: &mut [u8]) -> io
         return Ok(false);
     }
     show(writer, &buf[..n])?;
-    say(writer, b"\n")?;
+    say(writer, "\n")?;
     Ok(true)
 }
 
