@@ -74,7 +74,7 @@ fn obeys(string: &[u8], kind: StringKind) -> bool
     ensures { result ≡ obeyed kind string.now }
 {
     match kind {
-        StringKind::Text => utf8::is_well_formed(utf8::check(string)),
+        StringKind::Text => utf8::check(string).is_some(),
         StringKind::Blob => true,
     }
 }
@@ -102,11 +102,10 @@ pub fn read_raise_text(left: &[u8]) -> Result<Read<Span>, Refusal>
     ensures { Finds left.now raise_text part_of (λ s. within s text_limit) result }
 {
     let string = read_blob(left, Record::TEXT)?;
-    let form = utf8::check(model::part(left, string.value));
-    if !utf8::is_well_formed(form) {
+    let Some(code_points) = utf8::check(model::part(left, string.value)) else {
         return Err(Refusal::Utf8);
-    }
-    if !utf8::has_at_most(form, Record::TEXT_CODE_POINTS) {
+    };
+    if code_points > Record::TEXT_CODE_POINTS {
         return Err(Refusal::CodePoints);
     }
     Ok(string)
@@ -142,12 +141,12 @@ pub fn read_cause(left: &[u8]) -> Result<Read<CauseSpan>, Refusal>
         next,
     } = read_text(left, Record::CAUSE)?;
     let value = match cause::cause_of(model::part(left, string)) {
-        Cause::Name(k) => CauseSpan::Name(k),
-        Cause::Other { at, len } => CauseSpan::Other(Span {
+        Some(Cause::Name(k)) => CauseSpan::Name(k),
+        Some(Cause::Other { at, len }) => CauseSpan::Other(Span {
             at: string.at + at,
             len,
         }),
-        Cause::No => return Err(Refusal::Cause),
+        None => return Err(Refusal::Cause),
     };
     Ok(Read { value, next })
 }

@@ -11,23 +11,24 @@ pub returns-in_err-string : goal.returns-in_err-string
 unfolding cause_text
 returns-in_err-string c = rw (handed _ c.from_residual.ensures) (stops _ c.in_err-string.ensures)
 
-pub returns-in-No : goal.returns-in-No
+pub returns-in-None : goal.returns-in-None
 unfolding cause_text cause_value
-returns-in-No c =
-    let h = rw c.part.ensures at c.in-No.ensures in
+returns-in-None c =
+    let h = rw c.part.ensures at c.in-None.ensures in
     passes _ c.in_ok-string.ensures.0 (rw (← h.0) (record { out = refl }))
 
-pub returns-in-Name : goal.returns-in-Name
+pub returns-in-Some-Name : goal.returns-in-Some-Name
 unfolding cause_text cause_value
-returns-in-Name c =
-    let h = rw c.part.ensures at c.in-Name.ensures in
+returns-in-Some-Name c =
+    let h = rw (c.part.ensures, c.in-Some-Name.field-0-is) at c.in-Some-Name.ensures in
     (step _ c.in_ok-string.ensures.0 (rw (← h.0) (done h.1)), c.in_ok-string.ensures.1)
 
-pub returns-in-Other : goal.returns-in-Other
+pub returns-in-Some-Other : goal.returns-in-Some-Other
 unfolding cause_text cause_value
-returns-in-Other c =
-    let h = rw c.part.ensures at c.in-Other.ensures in
+returns-in-Some-Other c =
+    let read = rw c.in-Some-Other.field-0-is at c.in-Some-Other.ensures in
+    let h = rw c.part.ensures at read in
     let p = c.in_ok-string.field-0.value in
     let w = c.in_ok-string.ensures.0.lies in
     let l = part_length c.args.left.now p.at p.len w.0 in
-    (step _ c.in_ok-string.ensures.0 (rw (← h.0, part_part c.args.left.now p.at c.in-Other.at c.in-Other.len p.len (omega arith)) (done (omega (arith, w.0), omega (arith, w.1)))), c.in_ok-string.ensures.1)
+    (step _ c.in_ok-string.ensures.0 (rw (← h.0, part_part c.args.left.now p.at c.in-Some-Other.at c.in-Some-Other.len p.len (omega arith)) (done (omega (arith, w.0), omega (arith, w.1)))), c.in_ok-string.ensures.1)

@@ -1,5 +1,5 @@
 -- `read_raise_text` meets its contract: a text, and then whether it has at most 120 code points.
-use Rattle.std.proofs.Common.{sym, ◌∙◌, ap}
+use Rattle.std.proofs.Common.{sym, ◌∙◌, ap, ◌≡◌, ℕ, ◌<◌, ◌≤◌, false, true, leb, rules}
 use Rattle.definition.specs.Limits.{code_point_limit}
 use Rattle.definition.specs.Utf8.{code_points, is_run, at_most, utf8}
 use Rattle.definition.specs.Reader.{text}
@@ -13,22 +13,29 @@ pub returns-in_err-string : goal.returns-in_err-string
 unfolding raise_text text
 returns-in_err-string c = rw (handed _ c.from_residual.ensures) (stops _ (stops _ c.in_err-string.ensures))
 
-pub returns-then-not-is_well_formed : goal.returns-then-not-is_well_formed
+pub returns-in_default : goal.returns-in_default
 unfolding utf8 raise_text
-returns-then-not-is_well_formed c =
-    let form = c.check-form.ensures ∙ ap code_points c.part.ensures in
-    stops _ (disobeying Text c.in_ok-string.ensures.0 (ap is_run (sym form) ∙ sym c.is_well_formed.ensures ∙ c.if-not-is_well_formed.true))
+returns-in_default c =
+    let form = c.in_default.ensures ∙ ap code_points c.part.ensures in
+    stops _ (disobeying Text c.in_ok-string.ensures.0 (ap is_run (sym form)))
 
-pub returns-then-not-has_at_most : goal.returns-then-not-has_at_most
+-- the number of code points that was counted, and the limit
+within_limit : (k : ℕ) → k ≤ code_point_limit → leb k code_point_limit ≡ true
+within_limit k h = search rules
+
+beyond_limit : (k : ℕ) → code_point_limit < k → leb k code_point_limit ≡ false
+beyond_limit k h = search rules
+
+pub returns-then-code_points-gt-TEXT_CODE_POINTS : goal.returns-then-code_points-gt-TEXT_CODE_POINTS
 unfolding utf8 raise_text
-returns-then-not-has_at_most c =
-    let form = c.check-form.ensures ∙ ap code_points c.part.ensures in
-    let read = obeying Text c.in_ok-string.ensures.0 (ap is_run (sym form) ∙ sym c.is_well_formed.ensures ∙ c.if-not-is_well_formed.false) in
-    passes _ read (fails _ (ap (at_most code_point_limit) (sym form) ∙ sym c.has_at_most.ensures ∙ c.if-not-has_at_most.true))
+returns-then-code_points-gt-TEXT_CODE_POINTS c =
+    let form = c.in-Some.ensures ∙ ap code_points c.part.ensures in
+    let read = obeying Text c.in_ok-string.ensures.0 (ap is_run (sym form)) in
+    passes _ read (fails _ (ap (at_most code_point_limit) (sym form) ∙ beyond_limit _ c.if-code_points-gt-TEXT_CODE_POINTS.true))
 
 pub returns : goal.returns
 unfolding utf8 raise_text
 returns c =
-    let form = c.check-form.ensures ∙ ap code_points c.part.ensures in
-    let read = obeying Text c.in_ok-string.ensures.0 (ap is_run (sym form) ∙ sym c.is_well_formed.ensures ∙ c.if-not-is_well_formed.false) in
-    (step _ read (tested _ (ap (at_most code_point_limit) (sym form) ∙ sym c.has_at_most.ensures ∙ c.if-not-has_at_most.false) (done c.in_ok-string.ensures.0.lies)), c.in_ok-string.ensures.1)
+    let form = c.in-Some.ensures ∙ ap code_points c.part.ensures in
+    let read = obeying Text c.in_ok-string.ensures.0 (ap is_run (sym form)) in
+    (step _ read (tested _ (ap (at_most code_point_limit) (sym form) ∙ within_limit _ c.if-code_points-gt-TEXT_CODE_POINTS.false) (done c.in_ok-string.ensures.0.lies)), c.in_ok-string.ensures.1)
