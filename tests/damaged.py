@@ -14,6 +14,7 @@ from checklist import HERE, Skip, faults_of, run
 
 RECORD, BOOK = "crates/definition/specs/Record.antt", "crates/definition/specs/Book.antt"
 LIMITS, MODEL, PLACES = "crates/definition/specs/Limits.antt", "crates/model/src/lib.rt", "crates/record/src/places.rt"
+MEANING = "crates/model/specs/Meaning.antt"
 CLAUSES, TEXTS = "crates/definition/specs/Clauses/Does.antt", "crates/definition/proofs/Laws/Text/Cause.antt"
 CODE, SPECS, LAWS = "crates/octets/src/lib.rt", "crates/octets/specs/Bytes.antt", "crates/octets/specs/BoolLaws.antt"
 VECTORS = "crates/sha256_vectors/stdout"
@@ -182,6 +183,7 @@ DAMAGES = {
         ("another equality in a contract", CODE, r"Rattle\.std\.specs\.Prelude\.\{◌≡◌", "mathlib.Core.Pair.{◌≡◌"),
         ("an order under the name of equality", CODE, r"Rattle\.std\.specs\.Prelude\.\{◌≡◌", "Rattle.std.specs.Prelude.{◌≤◌ as ◌≡◌"),
         ("Rust's option in the definition", RECORD, r"Rattle\.std\.proofs\.Math\.Option\.\{Option", "Rattle.std.specs.Prelude.{Option"),
+        ("both options in one file", MEANING, r"\Z", "use Rattle.std.specs.Prelude.{Option}\n"),
         ("an order of one's own", SPECS, r"\Z", "\nabbrev pub ◌≤◌ : ℕ → ℕ → Bool\n◌≤◌ m n = true\n"),
         ("a length that only its file sees", SPECS, r"\Z", "\nlength : ℕ → ℕ\nlength n = n\n"),
         ("a list of one's own", SPECS, r"\Z", "\npub data List (A : Type 0) : Type 0 where\n  none_left : List A\n"),
@@ -213,7 +215,7 @@ DAMAGES = {
     ],
     (repository, "wrong answers fit the code"): [
         ("a function that is not there", WRONG, r"^== get16:", "== get17:"),
-        ("a text that is not there", WRONG, r"^- let mut i = 0;", "- let mut i = 2;"),
+        ("a text that is not there", WRONG, r"^- let mut v = 0;", "- let mut v = 2;"),
     ],
     (pages, "the page of wrong answers is theirs"): [
         ("a wrong answer that was renamed", WRONG, r"^(== get16: half) of the bytes", r"\1 of its bytes"),
@@ -230,7 +232,7 @@ DAMAGES = {
     ],
     (pages, "each enum has its meaning"): [
         ("an enum left out", CLAIMS, r"^\| `Parsed` .*\n", ""),
-        ("an enum that is not there", CLAIMS, r"^\| `Reply` ", "| `Reply`, `Response` "),
+        ("an enum that is not there", CLAIMS, r"^\| `Refusal` ", "| `Refusal`, `Response` "),
         ("a definition that is not there", CLAIMS, r"`cause_value`: ", "`cause_worth`: "),
     ],
     (pages, "TRUST lists the definition, with its lines"): [

@@ -52,7 +52,7 @@ def exported(root, path, name):
     folder, _, file = path.partition("/src/")
     modules = file.removesuffix(".rt").split("/") if file not in ("lib.rt", "main.rt") else []
     root_text = (root / folder / "src" / "lib.rt").read_text(encoding="utf-8") if modules else ""
-    if re.search(rf"^pub use {'::'.join(modules)}::{name};", root_text, re.M):
+    if re.search(rf"^pub use {'::'.join(modules)}::(?:{name};|\{{[^}}]*\b{name}\b)", root_text, re.M):
         return True
     above = "lib.rt"
     for module in modules:

@@ -25,14 +25,14 @@ function gives a wrong answer; the prover must refuse it because a fact fails.
   `make wrong`, since each costs a check of its crate. Usually it is the function's own `ensures` that fails; where that is
   said, it is what a function that it calls requires (call), or the invariant of its loop (loop).
 - *Must fail, because*, with a star: why an edit of `crates/*/must-fail`, named in brackets, is refused. `rt ci` tries these
-  every time. An edit of a constant is listed under the constant, an edit of a definition under the definition.
+  every time. An edit of a constant or of an enum is listed under its name, an edit of a definition under the definition.
 
 A function that is not public is listed too: it is where the edit is made, and a public contract rests on it.
 """
 
-# What an edit stands in, by the kind of its file: a function or a constant; a definition with its type.
+# What an edit stands in, by the kind of its file: a function, a constant or an enum; a definition with its type.
 HOLDERS = {
-    ".rt": re.compile(r"^ *(?:pub(?:\(crate\))? )?(?:(?:extern \"C\" )?fn|const) (\w+)", re.M),
+    ".rt": re.compile(r"^ *(?:pub(?:\(crate\))? )?(?:(?:extern \"C\" )?fn|const|enum) (\w+)", re.M),
     ".antt": re.compile(r"^ *(?:(?:pub|abbrev|unfoldable) )*(\S+) :(?= )", re.M),
 }
 
