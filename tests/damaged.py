@@ -212,6 +212,7 @@ DAMAGES = {
     (pages, "claims are there, one for each public function"): [
         ("a theorem that is not there", CLAIMS, r"`published`", "`publicised`"),
         ("a public function left out", CLAIMS, r"`put_zeros`", "`put_bytes`"),
+        ("a function left out that a crate's root hands on beside others", CLAIMS, r"`are_limits`", "`capacity`"),
     ],
     (repository, "wrong answers fit the code"): [
         ("a function that is not there", WRONG, r"^== get16:", "== get17:"),

@@ -2,7 +2,7 @@
 """The compiled library: the quick test of a string is part of the check of a record, and what decides where it fails is called. And the loop that
 decides on UTF-8 stands by itself, so that code points are counted only where their number is asked for.
 
-LLVM inlines by size, and by a hint at what is called (`any_string_at`); docs/DECISIONS.md, 4.16 and 2.7, says what hangs on it.
+LLVM inlines by size, and by hints at what is called (`any_string_at`, `is_run`); docs/DECISIONS.md, 4.16 and 2.7, says what hangs on it.
 """
 import re
 import sys
