@@ -1,5 +1,4 @@
 -- `clear`: the step, given what the search for the key found.
-use borrow.Author.Rules.{rules}
 use Rattle.std.specs.Prelude.{Ok}
 use Rattle.operations.specs.SearchLaws.{clear_sought}
 use Rattle.operations.proofs.clear.Goals as goal
@@ -9,7 +8,7 @@ find_key-found-requires c = c.requires.newest.whole
 
 pub clear_at-requires : goal.clear_at-requires
 clear_at-requires c =
-    (c.requires, search rules, c.find_key-found.ensures)
+    (c.requires, c.find_key-found.ensures)
 
 pub returns : goal.returns
 returns c =

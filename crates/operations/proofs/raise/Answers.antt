@@ -1,5 +1,4 @@
 -- `raise`: the step, given what the search for the key found.
-use borrow.Author.Rules.{rules}
 use Rattle.operations.specs.SearchLaws.{raise_sought}
 use Rattle.operations.proofs.raise.Goals as goal
 
@@ -8,7 +7,7 @@ find_key-found-requires c = c.requires.standing.whole
 
 pub raise_at-requires : goal.raise_at-requires
 raise_at-requires c =
-    (c.requires, search rules, c.find_key-found.ensures)
+    (c.requires, c.find_key-found.ensures)
 
 pub returns : goal.returns
 returns c =

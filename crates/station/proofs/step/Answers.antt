@@ -1,5 +1,6 @@
 -- `step`: soundness first, then the reading of the call, and then its operation.
 use Rattle.std.proofs.Common.{subst, sym, length, arith}
+use Rattle.std.proofs.lemmas.Result.{err_from_is_err_and}
 use Rattle.definition.specs.Value.{CallValue}
 use Rattle.definition.specs.Clauses.LegalFields.{LegalCall}
 use Rattle.definition.specs.Perform.{perform}
@@ -13,7 +14,10 @@ returns-in_default c =
     unsound c.args.register.now c.args.call.now c.args.answer.now c.in_default.ensures
 
 pub returns-in_err-parsed : goal.returns-in_err-parsed
-returns-in_err-parsed c = ?
+returns-in_err-parsed c =
+    let p = err_from_is_err_and c.from_residual.result c.from_residual.ensures.1 in
+    rw (p.1, p.2)
+    (not_read c.in_err-parsed.field-0.0 c.args.register.now c.args.call.now c.args.answer.now c.in-Some.ensures.whole c.in_err-parsed.ensures.0)
 
 pub perform-requires : goal.perform-requires
 perform-requires c =
