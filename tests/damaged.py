@@ -233,7 +233,7 @@ DAMAGES = {
     ],
     (pages, "each enum has its meaning"): [
         ("an enum left out", CLAIMS, r"^\| `Parsed` .*\n", ""),
-        ("an enum that is not there", CLAIMS, r"^\| `Refusal` ", "| `Refusal`, `Response` "),
+        ("an enum that is not there", CLAIMS, r"^\| `Refusal`, ", "| `Refusal`, `Response`, "),
         ("a definition that is not there", CLAIMS, r"`cause_value`: ", "`cause_worth`: "),
     ],
     (pages, "TRUST lists the definition, with its lines"): [
