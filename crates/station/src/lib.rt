@@ -10,7 +10,8 @@
 ghost use Rattle.definition.specs.Claim.{OpenReturns, StepReturns};
 ghost use Rattle.definition.specs.Panel.{look, write, PanelReturns};
 ghost use Rattle.panel.specs.Meaning.{call_of};
-ghost use Rattle.reply.specs.Meaning.{number_in, length_in};
+ghost use Rattle.model.specs.Refusal.{number_in};
+ghost use Rattle.reply.specs.Meaning.{length_in};
 
 use model::{Record, Refusal};
 use panel::PanelCall;
