@@ -19,6 +19,7 @@ ghost use Rattle.answers.specs.Meaning.{Answered, entry, totals_of};
 ghost use Rattle.answers.specs.Code.{code_number};
 
 use model::{Answer, CauseSpan, Key, Payload, Record};
+use strings::Writer;
 
 mod code;
 
@@ -57,11 +58,11 @@ pub fn put_count(answer: &mut [u8], at: usize, severity: u8, amount: u32, cause:
         result
         answer.new }
 {
-    octets::put_byte(answer, at, severity);
-    let n = at + 1;
-    octets::put32(answer, n, amount);
-    let m = at + 5;
-    strings::put_string(answer, m, cause)
+    let mut writer = Writer::new(answer, at);
+    writer.put_byte(severity);
+    writer.put_u32(amount);
+    writer.put_string(cause);
+    writer.place()
 }
 
 // ---- whole answers
@@ -86,7 +87,9 @@ pub fn put_text(answer: &mut [u8], code: Code, s: &[u8]) -> usize
     ensures { Answered answer.old (head (code_number code) 0 0) (string s.now) result answer.new }
 {
     let n = put_head(answer, code, 0, 0);
-    strings::put_string(answer, n, s)
+    let mut writer = Writer::new(answer, n);
+    writer.put_string(s);
+    writer.place()
 }
 
 // How many alarms an expiry or a lift took: operations 7 and 14.
@@ -128,7 +131,9 @@ pub fn put_without(answer: &mut [u8], key: &Key, call: &[u8], cause: CauseSpan) 
         answer.new }
 {
     let n = put_key(answer, Code::ClearWithoutActive, 0, key);
-    strings::put_cause(answer, n, call, cause)
+    let mut writer = Writer::new(answer, n);
+    writer.put_cause(call, cause);
+    writer.place()
 }
 
 // A raise that found the active chain full: its key, and the limit of that chain.

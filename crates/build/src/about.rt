@@ -9,6 +9,7 @@ ghost use Rattle.build.specs.Stretch.{pair_of, single_of, store_of};
 use super::slots;
 use model::{AffectedObject, CauseSpan, Payload, Prefix, Record, Span};
 use record::{AlarmAt, ObjectAt, Slot};
+use strings::Writer;
 
 // The cause in its stored form. It is put as a string of a call first.
 pub(crate) fn cause_into(p: &mut Payload, call: &[u8], c: CauseSpan)
@@ -16,8 +17,10 @@ pub(crate) fn cause_into(p: &mut Payload, call: &[u8], c: CauseSpan)
     ensures { p.new ≡ splice p.old 175 (cause_slot.put (cause_part call.now c)) }
 {
     let mut string = [0u8; Prefix::LENGTH + Record::CAUSE];
-    let e = strings::put_cause(&mut string, 0, call, c);
-    record::put_string(p, AlarmAt::CAUSE, Record::CAUSE, &string[Prefix::LENGTH..e]);
+    let mut writer = Writer::new(&mut string, 0);
+    writer.put_cause(call, c);
+    let cause = &writer.written()[Prefix::LENGTH..];
+    record::put_string(p, AlarmAt::CAUSE, Record::CAUSE, cause);
 }
 
 // ---- the affected object

@@ -5,9 +5,7 @@ use Prim.Native.Nat.{ℕ, ◌+◌, ◌≤◌, ◌<◌}
 use native.Mathlib.Omega.{arith}
 use lib.ListN.{length, length-append}
 use lib.Dec.{lit≤}
-use Rattle.octets.specs.Bytes.{Bytes, splice, ascii}
-use Rattle.octets.specs.SpliceLaws.{length_splice}
-use Rattle.octets.specs.Put.{Put}
+use Rattle.octets.specs.Bytes.{Bytes, ascii}
 use Rattle.definition.specs.Limits.{short_limit, cause_limit, region_limit}
 use Rattle.definition.specs.Key.{string, optional, strings, decimal, parts, fed_object, fed_places, fed}
 use Rattle.definition.proofs.Laws.Text.Key.{length_string, length_decimal}
@@ -22,33 +20,28 @@ use Rattle.model.specs.Meaning.{part, opt_part, cause_part, object_value, places
 use Rattle.model.specs.CaseLaws.{object_case}
 use Rattle.model.specs.PartLaws.{part_short}
 use Rattle.strings.specs.StoredLength.{stored_length}
+use Rattle.strings.specs.declared.Writer.{Writer}
+use Rattle.strings.specs.Writing.{Wrote}
+use Rattle.strings.specs.WritingLaws.{same_length}
 use Rattle.key.specs.Hashed.{string_most, option_most, tag_most, queue_most, object_most, places_most, hashed_width, Room, tagged_one, tagged_two}
 use Rattle.key.proofs.Fed.{single_fed, pair_fed, store_fed, queue_fed}
 
 -- ---- one thing behind another
 
 -- the same bytes in other words
-pub room_as : {b u v : Bytes} {at : ℕ} → v ≡ u → Room b at u → Room b at v
-room_as {b} {at = at} e r = subst (λ (x : Bytes). Room b at x) (sym e) r
+pub room_as : {w : Writer} {u v : Bytes} → v ≡ u → Room w u → Room w v
+room_as {w} e r = subst (λ (x : Bytes). Room w x) (sym e) r
 
 -- where there is room for two, there is for the first, and for the second behind it
-pub room_front : {b u : Bytes} {at : ℕ} (v : Bytes) → Room b at (u ++ v) → Room b at u
+pub room_front : {w : Writer} {u : Bytes} (v : Bytes) → Room w (u ++ v) → Room w u
 room_front {u = u} v r = record { width = r.width; fits = omega (arith, r.fits, length-append u v) }
 
-pub room_behind : {b c u v : Bytes} {at m : ℕ} → Room b at (u ++ v) → Put b at u m c → Room c m v
-room_behind {b} {u = u} {v} {at} r p =
-    record {
-      width = ap length p.bytes ∙ length_splice b at u (omega (arith, p.next, p.fits)) ∙ r.width;
-      fits = omega (arith, r.fits, p.next, length-append u v);
-    }
+pub room_behind : {w x : Writer} {u v : Bytes} → Room w (u ++ v) → Wrote w u x → Room x v
+room_behind {u = u} {v} r p = record { width = same_length p ∙ r.width; fits = omega (arith, r.fits, p.put.next, length-append u v) }
 
 -- what `put_string` asks for
-pub string_asks : {b : Bytes} {at : ℕ} (s : Bytes) → Room b at (string s) → (at + (4 + length s) ≤ length b) × (length s < 4294967296)
+pub string_asks : {w : Writer} (s : Bytes) → Room w (string s) → (w.at + (4 + length s) ≤ length w.slice.now) × (length s < 4294967296)
 string_asks s r = (omega (arith, r.width, r.fits, length_string s), omega (arith, r.fits, length_string s))
-
--- one byte, in front of what there is room for
-pub byte_put : {b c u : Bytes} {at v : ℕ} → Room b at (v ∷ u) → c ≡ splice b at (v ∷ []) → Put b at (v ∷ []) (at + 1) c
-byte_put r e = record { next = refl; fits = omega (arith, r.width, r.fits); bytes = e }
 
 -- ---- the most that each field takes
 
@@ -109,13 +102,13 @@ module _ (call : Bytes) where
 
   -- there is room for all that is hashed
   pub fed_room :
-      {b : Bytes} (p : Span) (k : KeyFields) → length b ≡ hashed_width → within call short_limit p → KeyWithin call k →
-      Room b 0 (fed (part call p) (key_value call k))
+      {w : Writer} (p : Span) (k : KeyFields) → length w.slice.now ≡ hashed_width → w.at ≡ 0 → within call short_limit p → KeyWithin call k →
+      Room w (fed (part call p) (key_value call k))
   unfolding fed
-  fed_room p k l w v =
+  fed_room p k l s h v =
       let behind-cause = both (object_most_lem k.object v.object) (places_most_lem k.places v.places) in
       let behind-type = both (string_most_lem (cause_part call k.cause) cause_limit (stored_length call k.cause v.cause)) behind-cause in
-      record { width = l; fits = omega (arith, (both (part_most short_limit p w) behind-type).most) }
+      record { width = l; fits = omega (arith, s, (both (part_most short_limit p h) behind-type).most) }
 
   -- ---- an option within the limit of tenant and slice is within that of a region
 

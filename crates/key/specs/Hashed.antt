@@ -3,6 +3,7 @@ use Rattle.std.specs.Prelude.{◌≡◌, ◌++◌, ℕ, ◌+◌, ◌≤◌, leng
 use Rattle.octets.specs.Bytes.{Bytes}
 use Rattle.definition.specs.Limits.{short_limit, cause_limit, region_limit}
 use Rattle.definition.specs.Key.{string}
+use Rattle.strings.specs.declared.Writer.{Writer}
 
 -- ---- its width: the most that each field takes, within the limits of a record
 
@@ -29,10 +30,10 @@ places_most = option_most short_limit + option_most short_limit + option_most re
 abbrev pub hashed_width : ℕ
 hashed_width = string_most short_limit + string_most cause_limit + object_most + places_most
 
--- the buffer has room for these bytes from a place on
-pub record Room (buf : Bytes) (at : ℕ) (v : Bytes) : Type 0 where
-  pub width : length buf ≡ hashed_width
-  pub fits : at + length v ≤ hashed_width
+-- w stands in the buffer with room for these bytes
+pub record Room (w : Writer) (v : Bytes) : Type 0 where
+  pub width : length w.slice.now ≡ hashed_width
+  pub fits : w.at + length v ≤ hashed_width
 
 -- ---- a kind's tag, with one string or two
 

@@ -1,1 +1,3 @@
 pub mod StoredLength
+pub mod Writing
+pub mod WritingLaws

@@ -1,5 +1,5 @@
 -- A cause in its stored form is within the limit of a cause. For `strings`, and for `key`, which makes room for it.
-use Rattle.std.specs.Prelude.{ℕ, ◌≤◌, ◌<◌, [], ◌++◌, length, drop, get_or, leb}
+use Rattle.std.specs.Prelude.{ℕ, ◌≤◌, ◌<◌, [], length, drop, get_or, leb}
 use Rattle.std.proofs.Common.{arith, length-take, length-append, leb→le}
 use Rattle.octets.specs.Bytes.{Bytes}
 use Rattle.octets.specs.RangeLaws.{on_range}

@@ -5,7 +5,7 @@ use lib.ListN.{drop}
 use Rattle.octets.specs.PartLaws.{part_rest}
 use Rattle.definition.specs.Key.{string, decimal}
 use Rattle.definition.proofs.Laws.Text.Key.{length_string, length_decimal, five_decimal, five_digits}
-use Rattle.octets.specs.PutLaws.{put_as}
+use Rattle.strings.specs.WritingLaws.{wrote_as}
 use Rattle.key.proofs.put_queue.Goals as goal
 
 pub put_string-requires : goal.put_string-requires
@@ -16,4 +16,4 @@ put_string-requires c =
 
 pub returns : goal.returns
 returns c =
-    put_as (ap string (part_rest (five_digits c.args.q) c.unwritten-a.result ∙ ap (λ k. drop k (five_digits c.args.q)) c.unwritten-a.ensures ∙ five_decimal c.args.q)) c.put_string.ensures
+    wrote_as (ap string (part_rest (five_digits c.args.q) c.unwritten-a.result ∙ ap (λ k. drop k (five_digits c.args.q)) c.unwritten-a.ensures ∙ five_decimal c.args.q)) c.put_string.ensures
