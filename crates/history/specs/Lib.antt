@@ -7,4 +7,5 @@ pub mod AlarmRecordLaws
 pub mod WalkLaws
 pub mod CountLaws
 pub mod LinkLaws
+pub mod PlaceLaws
 pub mod FileLaws
