@@ -18,11 +18,12 @@ use Rattle.definition.specs.Answer.{Count, count_entries}
 use Rattle.definition.specs.Book.{record_of}
 use Rattle.definition.specs.Reports.{Rating, rating, count_of, firsts_from, tally}
 use Rattle.answers.specs.EntryLaws.{Begun, begun_none, begun_length, begun_fits, begun_next, begun_all}
-use Rattle.history.specs.Walk.{alarm_at, Reached}
-use Rattle.history.specs.WalkLaws.{reached_next, field_here, field_end}
+use Rattle.history.specs.Walk.{alarm_at, AheadAt}
+use Rattle.history.specs.WalkLaws.{reached_most}
+use Rattle.history.specs.PlaceLaws.{ahead_within, ahead_reached, ahead_further, ahead_field, ahead_over}
 use Rattle.metrics.specs.Meaning.{ratings, rating_at, firsts, firsts_at, is_first, counted, most_rows, rows, row_ratings, Covers, Tallied, entry_bytes, sizes, size_if, listing, row_entries, listing_from, entry_if}
 use Rattle.metrics.specs.FirstLaws.{firsts_split, firsts_next, firsts_end}
-use Rattle.metrics.specs.RowLaws.{table_many, table_place, reached_as, covers_many}
+use Rattle.metrics.specs.RowLaws.{table_many, table_place, covers_many}
 
 -- ---- how long entries are
 
@@ -165,9 +166,9 @@ size_small : (b : Bytes) (i : ℕ) (t : Bool) → size_if t (rating_at b i) ≤ 
 size_small b i true = omega (arith, cause_short b i)
 size_small b i false = omega arith
 
--- of n places k are passed, those before p by the rows: e entries, which end at place m of the answer
-pub record Measured (b : Bytes) (n p k at e m : ℕ) : Type 0 where
-  pub reached : Reached b 0 n k at
+-- k places are passed, those before p by the rows: e entries, which end at place m of the answer; the records in l are still to come
+pub record Measured (b : Bytes) (p k e m : ℕ) (l : List ℕ) : Type 0 where
+  pub ahead : AheadAt b 0 k l
   pub passed : p ≤ k
   pub few : e ≤ most_rows + k
   pub small : m ≤ 16 + 105 * (most_rows + k)
@@ -181,13 +182,13 @@ sizes_append (q ∷ l) m = omega (arith, sizes_append l m)
 
 -- the rows' are the first
 pub measured_rows :
-    {b : Bytes} {n p at m : ℕ} {is : List ℕ} → Covers b p at m is → n ≡ at32 b 16 → {c e : ℕ} → c ≡ m → e ≡ 16 + sizes (row_ratings b m is) → Measured b n p p at c e
-measured_rows {b} {n} {p} {at} {m} {is} w en {c} {e} ec ee =
+    {b : Bytes} {p at m : ℕ} {is l : List ℕ} → Covers b p at m is → AheadAt b 0 p l → {c e : ℕ} → c ≡ m → e ≡ 16 + sizes (row_ratings b m is) → Measured b p p c e l
+measured_rows {b} {p} {at} {m} {is} w a {c} {e} ec ee =
     let split = firsts_split p (ratings b) in
     let f = firsts_from [] (take p (ratings b)) in
     let own : sizes (row_ratings b m is) ≡ sizes f = ap sizes w.firsts_are in
     record {
-      reached = reached_as (sym en) w.reached;
+      ahead = a;
       passed = omega arith;
       few = omega (arith, w.room);
       small = omega (arith, sizes_small b (take m is), length-take m is, w.room);
@@ -195,41 +196,42 @@ measured_rows {b} {n} {p} {at} {m} {is} w en {c} {e} ec ee =
       bytes = omega (arith, ap sizes split, sizes_append f (firsts_at p (ratings b)), own);
     }
 
-module _ {b : Bytes} {n p k at e m : ℕ} (w : Measured b n p k at e m) (l : k < n) {t : Bool} (et : t ≡ is_first b k at) {d : ℕ} (ed : d ≡ size_if t (rating_at b at)) where
-  -- where the next entry ends
-  pub measured_small : m + d ≤ 16 + 105 * (most_rows + n)
-  measured_small = omega (arith, w.small, size_small b at t, ed)
+module _ {b : Bytes} {p k e m : ℕ} {l : List ℕ} (w : Measured b p k e m l) where
+  module _ {i : ℕ} {rest : List ℕ} (here : l ≡ i ∷ rest) {t : Bool} (et : t ≡ is_first b k i) {d : ℕ} (ed : d ≡ size_if t (rating_at b i)) where
+    -- where the next entry ends
+    pub measured_small : m + d ≤ 16 + 105 * (most_rows + 65535)
+    measured_small = omega (arith, w.small, size_small b i t, ed, ahead_within w.ahead here, reached_most (ahead_reached w.ahead here))
 
-  pub measured_next : {e' r : ℕ} → e' ≡ cond t (e + 1) e → r ≡ at32 b (1536 * at) → Measured b n p (k + 1) r e' (m + d)
-  measured_next {e'} ee er =
-      let here = field_here w.reached l rating in
-      let more : e' ≡ cond (is_first b k at) (e + 1) e = rw et at ee in
-      let size : d ≡ size_if (is_first b k at) (rating_at b at) = rw et at ed in
-      record {
-        reached = reached_next w.reached l er;
-        passed = omega (arith, w.passed);
-        few = rw ee (one t);
-        small = omega (arith, w.small, size_small b at t, ed);
-        amount = ap (λ (x : ℕ). x + length (firsts_at (k + 1) (ratings b))) more ∙ many_next b k at here e ∙ w.amount;
-        bytes = omega (arith, size_next b k at here, w.bytes, size);
-      }
-    where
-      one : (s : Bool) → cond s (e + 1) e ≤ most_rows + (k + 1)
-      one true = omega (arith, w.few)
-      one false = omega (arith, w.few)
+    pub measured_next : {e' : ℕ} → e' ≡ cond t (e + 1) e → Measured b p (k + 1) e' (m + d) rest
+    measured_next {e'} ee =
+        let more : e' ≡ cond (is_first b k i) (e + 1) e = rw et at ee in
+        let size : d ≡ size_if (is_first b k i) (rating_at b i) = rw et at ed in
+        let field = ahead_field w.ahead here rating in
+        record {
+          ahead = ahead_further w.ahead here;
+          passed = omega (arith, w.passed);
+          few = rw ee (one t);
+          small = omega (arith, w.small, size_small b i t, ed);
+          amount = ap (λ (x : ℕ). x + length (firsts_at (k + 1) (ratings b))) more ∙ many_next b k i field e ∙ w.amount;
+          bytes = omega (arith, size_next b k i field, w.bytes, size);
+        }
+      where
+        one : (s : Bool) → cond s (e + 1) e ≤ most_rows + (k + 1)
+        one true = omega (arith, w.few)
+        one false = omega (arith, w.few)
 
-pub measured_all : {b : Bytes} {n p k at e m : ℕ} → Measured b n p k at e m → n ≤ k → (e ≡ length (firsts b)) × (m ≡ 16 + sizes (firsts b))
-unfolding sizes
-measured_all {b} {n} {p} {k} w l =
-    let end = firsts_end k (ratings b) (field_end w.reached l rating) in
-    (omega (arith, w.amount, ap length end), omega (arith, w.bytes, ap sizes end))
+  pub measured_all : at32 b 16 ≤ k → (e ≡ length (firsts b)) × (m ≡ 16 + sizes (firsts b))
+  unfolding sizes
+  measured_all h =
+      let none = firsts_end k (ratings b) (ahead_over w.ahead rating h) in
+      (omega (arith, w.amount, ap length none), omega (arith, w.bytes, ap sizes none))
 
 -- ---- the entries, written by a walk
 
--- of n places k are passed, those before p by the rows; what stood in the answer when it was d, up to place e, stands there with their entries now that it
--- is c, up to place m
-pub record Written (b d c : Bytes) (n p k at e m : ℕ) : Type 0 where
-  pub reached : Reached b 0 n k at
+-- k places are passed, those before p by the rows; what stood in the answer when it was d, up to place e, stands there with their entries now that it
+-- is c, up to place m; the records in l are still to come
+pub record Written (b d c : Bytes) (p k e m : ℕ) (l : List ℕ) : Type 0 where
+  pub ahead : AheadAt b 0 k l
   pub passed : p ≤ k
   pub begun : (a : Bytes) → Begun (listing b) (listing_from p b) a d e → Begun (listing b) (listing_from k b) a c m
 
@@ -256,30 +258,30 @@ module _ {b : Bytes} {p at m : ℕ} {is ns : List ℕ} (w : Covers b p at m is) 
   pub rows_begun : {a c : Bytes} {e : ℕ} → 16 + length (listing b) ≤ length a → Put a 16 (row_entries b m is ns) e c → Begun (listing b) (listing_from p b) a c e
   rows_begun h put = record { room = h; text = row_entries b m is ns; put = put; is = listing_rows w t }
 
-pub written_none : {b : Bytes} (d : Bytes) {n p at : ℕ} (e : ℕ) → Reached b 0 n p at → Written b d d n p p at e e
-written_none d e w = record { reached = w; passed = omega arith; begun = λ a s. s }
+pub written_none : {b : Bytes} (d : Bytes) {p : ℕ} (e : ℕ) {l : List ℕ} → AheadAt b 0 p l → Written b d d p p e e l
+written_none d e w = record { ahead = w; passed = omega arith; begun = λ a s. s }
 
-module _ {b d c : Bytes} {n p k at e m : ℕ} (w : Written b d c n p k at e m) where
-  module _ (l : k < n) {t : Bool} (et : t ≡ is_first b k at) where
-    piece_starts : listing_from k b ≡ entry_if t b at ++ listing_from (k + 1) b
-    piece_starts = rw et (listing_next b k at (field_here w.reached l rating))
+module _ {b d c : Bytes} {p k e m : ℕ} {l : List ℕ} (w : Written b d c p k e m l) where
+  module _ {i : ℕ} {rest : List ℕ} (here : l ≡ i ∷ rest) {t : Bool} (et : t ≡ is_first b k i) where
+    piece_starts : listing_from k b ≡ entry_if t b i ++ listing_from (k + 1) b
+    piece_starts = rw et (listing_next b k i (ahead_field w.ahead here rating))
 
     -- the next entry fits
-    pub written_fits : {a : Bytes} → Begun (listing b) (listing_from p b) a d e → m + length (entry_if t b at) ≤ length c
-    written_fits {a} s = begun_fits (w.begun a s) (entry_if t b at) (listing_from (k + 1) b) piece_starts
+    pub written_fits : {a : Bytes} → Begun (listing b) (listing_from p b) a d e → m + length (entry_if t b i) ≤ length c
+    written_fits {a} s = begun_fits (w.begun a s) (entry_if t b i) (listing_from (k + 1) b) piece_starts
 
-    pub written_next : {c' : Bytes} {m' r : ℕ} → Put c m (entry_if t b at) m' c' → r ≡ at32 b (1536 * at) → Written b d c' n p (k + 1) r e m'
-    written_next put er = record {
-      reached = reached_next w.reached l er;
+    pub written_next : {c' : Bytes} {m' : ℕ} → Put c m (entry_if t b i) m' c' → Written b d c' p (k + 1) e m' rest
+    written_next put = record {
+      ahead = ahead_further w.ahead here;
       passed = omega (arith, w.passed);
-      begun = λ a s. begun_next (w.begun a s) (entry_if t b at) (listing_from (k + 1) b) piece_starts put;
+      begun = λ a s. begun_next (w.begun a s) (entry_if t b i) (listing_from (k + 1) b) piece_starts put;
     }
 
   module _ {a : Bytes} (s : Begun (listing b) (listing_from p b) a d e) where
     pub written_length : length c ≡ length a
     written_length = begun_length (w.begun a s)
 
-    pub written_all : n ≤ k → Put a 16 (listing b) m c
+    pub written_all : at32 b 16 ≤ k → Put a 16 (listing b) m c
     unfolding listing_from count_entries
-    written_all l =
-        begun_all (w.begun a s) (ap (λ (x : List Rating). count_entries (map (count_of (ratings b)) x)) (firsts_end k (ratings b) (field_end w.reached l rating)))
+    written_all h =
+        begun_all (w.begun a s) (ap (λ (x : List Rating). count_entries (map (count_of (ratings b)) x)) (firsts_end k (ratings b) (ahead_over w.ahead rating h)))

@@ -103,11 +103,11 @@ pub record Noted (b : Bytes) (i m : ℕ) (is ns : List ℕ) (m' : ℕ) (is' ns' 
   pub counted : row < m → (m' ≡ m) × (is' ≡ is) × (ns' ≡ set ns row (get_or ns row 0 + 1))
   pub new : m ≤ row → (m' ≡ m + 1) × (is' ≡ set is m i) × (ns' ≡ set ns m 1)
 
--- of n places k are passed, the walk is at record `at`, and the rows are the tally of the places passed
-pub record Collected (b : Bytes) (n k at m : ℕ) (is ns : List ℕ) : Type 0 where
-  pub reached : Reached b 0 n k at
-  pub table : Table b k m is ns
-  pub rows_are : rows b m is ns ≡ tally (take k (ratings b))
+-- the rows are the tally of the places before p, at which record `at` stands
+pub record Collected (b : Bytes) (p at m : ℕ) (is ns : List ℕ) : Type 0 where
+  pub reached : Reached b 0 (at32 b 16) p at
+  pub table : Table b p m is ns
+  pub rows_are : rows b m is ns ≡ tally (take p (ratings b))
 
 -- the rows have the ratings that appear first at the places before p, at which record `at` stands
 pub record Covers (b : Bytes) (p at m : ℕ) (is : List ℕ) : Type 0 where

@@ -1,16 +1,17 @@
 // A table of ratings by first appearance: for each the record in which it appears first, and how often it appears.
 //
 // `collect` makes it of the chain's first places, as far as there is room for their ratings; `count_on` counts the
-// places behind them in the rows. A rating is compared with the rows one by one. Walks begin or end at a place of the
-// chain here and in lib.rt, so they go by place and record: history's iterator begins at the first record, and has no places.
-ghost use Rattle.std.specs.Prelude.{◌≡◌, true, false, ◌+◌, ◌≤◌, ◌<◌, T, length, get_or, IfSome};
+// places behind them in the rows. A rating is compared with the rows one by one.
+ghost use Rattle.std.specs.Prelude.{◌≡◌, true, false, ◌+◌, ◌≤◌, ◌<◌, T, length, drop, get_or, IfSome};
 ghost use Rattle.std.specs.Option.{unwrap_or};
 ghost use Rattle.octets.specs.Bytes.{at32};
 ghost use Rattle.octets.specs.Put.{Put};
 ghost use Rattle.definition.specs.Sound.{sound};
+ghost use Rattle.history.specs.Walk.{records_on, Reached};
 ghost use Rattle.metrics.specs.Meaning.{Fits, rating_at, most_rows, AllFit, AllSmall, Row, CountedIn, Noted, Collected, Tallied, row_ratings, row_entries, sizes};
 
 use super::rating;
+use history::Walk;
 use model::Answer;
 use register::Chain;
 
@@ -32,6 +33,8 @@ impl Table {
     // A table that covers nothing.
     pub(crate) fn new() -> Table
         ensures { (result.rows ≡ 0)
+            × (result.place ≡ 0)
+            × (result.at ≡ 0)
             × (length result.records ≡ most_rows)
             × (length result.amounts ≡ most_rows) }
     {
@@ -119,32 +122,39 @@ impl Table {
         true
     }
 
-    // Adds the active alarms to an empty table, as far as there is room for their ratings.
-    pub(crate) fn collect(&mut self, register: &[u8])
-        requires { T (sound register.now)
-            × (self.old.rows ≡ 0)
-            × (length self.old.records ≡ most_rows)
-            × (length self.old.amounts ≡ most_rows) }
+    // The table of the active alarms, as far as there is room for their ratings.
+    pub(crate) fn collect(register: &[u8]) -> Table
+        requires { T (sound register.now) }
         ensures { Collected
             register.now
-            (at32 register.now 16)
-            self.new.place
-            self.new.at
-            self.new.rows
-            self.new.records
-            self.new.amounts }
+            result.place
+            result.at
+            result.rows
+            result.records
+            result.amounts }
     {
-        let n = register::held(register, Chain::Active);
-        self.at = register::first(register, Chain::Active);
-        for k in 0..n {
-            self.place = k;
-            let at = self.at;
-            if !self.note(register, at) {
-                return;
+        let mut table = Table::new();
+        for i in history::records(register, Chain::Active) {
+            if !table.note(register, i) {
+                table.at = i;
+                return table;
             }
-            self.at = register::next(register, at);
+            table.place += 1;
         }
-        self.place = n;
+        table
+    }
+
+    // The records of the places that the table does not cover.
+    pub(crate) fn behind<'a>(&self, register: &'a [u8]) -> Walk<'a>
+        requires { Reached
+            register.now
+            0
+            (at32 register.now 16)
+            self.now.place
+            self.now.at }
+        ensures { result ≡ drop self.now.place (records_on 0 register.now) }
+    {
+        history::records_from(register, Chain::Active, self.place, self.at)
     }
 
     // Counts the alarms that the table does not cover in their rows; those whose rating no row has are left.
@@ -152,7 +162,6 @@ impl Table {
         requires { T (sound register.now)
             × Collected
             register.now
-            (at32 register.now 16)
             self.old.place
             self.old.at
             self.old.rows
@@ -164,12 +173,9 @@ impl Table {
         ensures same_at { self.new.at ≡ self.old.at }
         ensures same_records { self.new.records ≡ self.old.records }
     {
-        let n = register::held(register, Chain::Active);
-        let mut at = self.at;
-        for _k in self.place..n {
-            let row = self.row_of(register, at);
+        for i in self.behind(register) {
+            let row = self.row_of(register, i);
             self.count_in(row);
-            at = register::next(register, at);
         }
     }
 

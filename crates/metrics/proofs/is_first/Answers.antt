@@ -1,11 +1,15 @@
 -- `is_first`: no row has the rating, and none of the places passed.
+use Prim.Native.Nat.{◌+◌, ◌≤◌}
 use mathlib.Core.Path.{sym, ◌∙◌}
 use native.Mathlib.Omega.{arith}
+use Rattle.std.proofs.Math.Decide.{dec_lt}
+use Rattle.std.specs.Iterator.Adapters.{take_count}
 use Rattle.definition.specs.Reports.{rating}
-use Rattle.history.specs.WalkLaws.{reached_fits, reached_next, field_here}
+use Rattle.history.specs.WalkLaws.{reached_fits}
+use Rattle.history.specs.PlaceLaws.{ahead_end, ahead_further, ahead_field}
 use Rattle.metrics.specs.Meaning.{ratings, rating_at}
 use Rattle.metrics.specs.FirstLaws.{seen_later, unmet_from, unmet_next, met, unmet_all}
-use Rattle.metrics.specs.RowLaws.{some_below, none_above, covers_row, covers_none}
+use Rattle.metrics.specs.RowLaws.{ahead_from, ahead_place, some_below, none_above, covers_row, covers_none}
 use Rattle.metrics.proofs.is_first.Goals as goal
 
 pub row_of-requires : goal.row_of-requires
@@ -22,28 +26,40 @@ pub loop-j-init : goal.loop-j-init
 loop-j-init c =
     let q = rating_at c.args.register.now c.args.i in
     let above = none_above c.row_of.result c.args.table.now.rows (sym c.is_some.ensures ∙ c.if-is_some.false) in
-    (c.requires.0.reached, unmet_from q (ratings c.args.register.now) c.args.k c.args.table.now.place c.requires.2 (covers_none c.requires.0 q c.row_of.ensures.row above))
+    let t = c.take-j-items.ensures in
+    rw (c.into_iter-j-iterator.ensures.into_iter_gives) (
+      c.args.table.now.place,
+      ahead_from c.requires.0.reached t.source c.behind.ensures,
+      omega (arith, t.count, c.requires.2),
+      unmet_from q (ratings c.args.register.now) c.args.k c.args.table.now.place c.requires.2 (covers_none c.requires.0 q c.row_of.ensures.row above),
+    )
 
 pub same-requires : goal.same-requires
 same-requires c =
-    (reached_fits c.requires.1.reached c.requires.1.within, reached_fits c.loop-j.invariant.0 (omega (arith, c.loop-j-test.true, c.requires.1.within)))
+    let here = ahead_place c.loop-j.invariant.1 c.in-Some.ensures.steps.0 in
+    (reached_fits c.requires.1.reached c.requires.1.within, reached_fits here.reached here.within)
 
 pub returns-then-same : goal.returns-then-same
 returns-then-same c =
-    let here = field_here c.loop-j.invariant.0 (omega (arith, c.loop-j-test.true, c.requires.1.within)) rating in
-    sym (met (rating_at c.args.register.now c.args.i) (ratings c.args.register.now) c.args.k c.loop-j.invariant.1 c.loop-j-test.true _ here (sym c.same.ensures ∙ c.if-same.true))
-
-pub next-at-requires : goal.next-at-requires
-next-at-requires c =
-    reached_fits c.loop-j.invariant.0 (omega (arith, c.loop-j-test.true, c.requires.1.within))
+    let w = c.loop-j.invariant in
+    let s = c.in-Some.ensures.steps in
+    sym (met (rating_at c.args.register.now c.args.i) (ratings c.args.register.now) c.args.k w.3 (omega (arith, w.2, s.1)) _ (ahead_field w.1 s.0 rating) (sym c.same.ensures ∙ c.if-same.true))
 
 pub loop-j-preserved : goal.loop-j-preserved
-loop-j-preserved c = (
-  reached_next c.loop-j.invariant.0 (omega (arith, c.loop-j-test.true, c.requires.1.within)) c.next-at.ensures,
-  unmet_next (rating_at c.args.register.now c.args.i) (ratings c.args.register.now) c.args.k c.loop-j.invariant.1 c.loop-j-test.true _
-      (field_here c.loop-j.invariant.0 (omega (arith, c.loop-j-test.true, c.requires.1.within)) rating) (sym c.same.ensures ∙ c.if-same.false),
-)
+loop-j-preserved c =
+    let w = c.loop-j.invariant in
+    let s = c.in-Some.ensures.steps in (
+      w.0 + 1,
+      ahead_further w.1 s.0,
+      omega (arith, w.2, s.1),
+      unmet_next (rating_at c.args.register.now c.args.i) (ratings c.args.register.now) c.args.k w.3 (omega (arith, w.2, s.1)) _ (ahead_field w.1 s.0 rating) (sym c.same.ensures ∙ c.if-same.false),
+    )
 
 pub returns : goal.returns
 returns c =
-    sym (unmet_all (rating_at c.args.register.now c.args.i) (ratings c.args.register.now) c.args.k c.loop-j.invariant.1 (omega (arith, c.loop-j-test.false)))
+    let w = c.loop-j.invariant in
+    let passed : c.args.k ≤ w.0 = elim (dec_lt 0 (take_count c.loop-j.j-iterator)) [
+      | yes h ↦ omega (arith, ahead_end w.1 (c.in-None.ensures.steps h).0, c.requires.1.within)
+      | no h ↦ omega (arith, w.2)
+    ] in
+    sym (unmet_all (rating_at c.args.register.now c.args.i) (ratings c.args.register.now) c.args.k w.3 passed)

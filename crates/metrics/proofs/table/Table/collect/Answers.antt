@@ -1,21 +1,34 @@
 -- `collect`: the rows are the tally of the places passed.
+use mathlib.Core.Path.{◌∙◌}
 use native.Mathlib.Omega.{arith}
-use Rattle.history.specs.WalkLaws.{reached_first, reached_fits}
-use Rattle.metrics.specs.RowLaws.{collected_none, collected_small, collected_next}
+use Rattle.history.specs.WalkLaws.{reached_most}
+use Rattle.metrics.specs.RowLaws.{collecting_first, collecting_place, collecting_fits, collecting_small, collecting_at, collecting_next, collecting_all}
 use Rattle.metrics.proofs.table.Table.collect.Goals as goal
 
-pub loop-k-init : goal.loop-k-init
-loop-k-init c =
-    rw c.requires.1 (collected_none _ _ (reached_first _ c.requires.0 0 (omega arith) c.held-n.ensures c.first-self.ensures) c.requires.2 c.requires.3)
+pub loop-i-init : goal.loop-i-init
+loop-i-init c =
+    let n = c.new-table.ensures in
+    (rw (n.0, n.1) (collecting_first _ _ c.requires (c.into_iter-i-iterator.ensures.into_iter_gives ∙ c.records-i-items.ensures) n.3 n.4), n.2)
 
 pub note-requires : goal.note-requires
 note-requires c =
-    let w = c.loop-k.invariant in
-    (w.table.room, w.table.fit, reached_fits w.reached c.loop-k-test.true, collected_small w c.loop-k-test.true)
+    let w = c.loop-i.invariant.0 in
+    let here = c.in-Some.ensures.steps in
+    (w.table.room, w.table.fit, collecting_fits w here, collecting_small w here)
 
-pub next-self-requires : goal.next-self-requires
-next-self-requires c = reached_fits c.loop-k.invariant.reached c.loop-k-test.true
+pub returns-then-not-note : goal.returns-then-not-note
+returns-then-not-note c =
+    rw (c.note.ensures.left c.if-not-note.true) (collecting_at c.loop-i.invariant.0 c.in-Some.ensures.steps)
 
-pub loop-k-preserved : goal.loop-k-preserved
-loop-k-preserved c =
-    collected_next c.loop-k.invariant c.loop-k-test.true (c.note.ensures.added c.if-not-note.false) c.next-self.ensures
+pub overflow_add-table : goal.overflow_add-table
+overflow_add-table c =
+    let p = collecting_place c.loop-i.invariant.0 c.in-Some.ensures.steps in
+    omega (arith, c.note.ensures.same_place, p.within, reached_most p.reached)
+
+pub loop-i-preserved : goal.loop-i-preserved
+loop-i-preserved c =
+    let w = c.loop-i.invariant in
+    (rw (c.note.ensures.same_place) (collecting_next w.0 c.in-Some.ensures.steps (c.note.ensures.added c.if-not-note.false)), c.note.ensures.same_at ∙ w.1)
+
+pub returns : goal.returns
+returns c = rw (c.loop-i.invariant.1) (collecting_all c.loop-i.invariant.0 c.in-None.ensures.steps.0)

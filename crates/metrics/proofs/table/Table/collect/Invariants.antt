@@ -1,6 +1,7 @@
 -- `collect`: the rows are the tally of the places passed.
-use Rattle.metrics.specs.Meaning.{Collected}
+use mathlib.Core.Path.{◌≡◌}
+use Rattle.metrics.specs.RowLaws.{Collecting}
 use Rattle.metrics.proofs.table.Table.collect.Given as goal
 
-abbrev pub invariant-loop-k : goal.invariant-loop-k
-invariant-loop-k l = Collected l.register l.n l.k l.self.at l.self.rows l.self.records l.self.amounts
+abbrev pub invariant-loop-i : goal.invariant-loop-i
+invariant-loop-i l = Collecting l.register l.table.place l.table.rows l.table.records l.table.amounts l.i-iterator × (l.table.at ≡ 0)

@@ -3,8 +3,8 @@ use mathlib.Core.Path.{◌≡◌}
 use Rattle.metrics.specs.RowLaws.{Counting}
 use Rattle.metrics.proofs.table.Table.count_on.Given as goal
 
-abbrev pub invariant-loop-k : goal.invariant-loop-k
-invariant-loop-k l =
-    Counting l.register l.n l._k l.at l.self.rows l.self.records l.self.amounts
+abbrev pub invariant-loop-i : goal.invariant-loop-i
+invariant-loop-i l =
+    Counting l.register l.self.rows l.self.records l.self.amounts l.i-iterator
     × (l.self.rows ≡ l.initial.self.rows) × (l.self.place ≡ l.initial.self.place) × (l.self.at ≡ l.initial.self.at)
     × (l.self.records ≡ l.initial.self.records)
