@@ -8,8 +8,6 @@
 // Nothing is claimed of what is written but that the program is safe and ends.
 #![tactic(auto)]
 
-ghost use Rattle.std.specs.Prelude.{◌≤◌, length, IfOk};
-
 use action_fields::{Plain, Policy, Scope};
 use call::Parsed;
 use model::{Action, AffectedObject, CauseSpan, Deed, KeyFields, Places, Span};
@@ -243,48 +241,22 @@ fn show<W: Write>(writer: &mut W, call: &[u8]) -> io::Result<()> {
     }
 }
 
-// Reads until buf is full or the input ends, and says how many bytes came to its front.
-fn read_full<R: Read>(reader: &mut R, buf: &mut [u8]) -> io::Result<usize>
-    ensures { IfOk result (λ n. n ≤ length buf.new) }
-{
-    let mut done = 0;
-    while done < buf.len() {
-        let n = reader.read(&mut buf[done..])?;
-        if n == 0 {
+// The calls of the input, each behind its length in four bytes. A proved loop ends, and nothing says that the input does: the turns are
+// counted to a number that no run uses up.
+fn calls<R: Read, W: Write>(reader: &mut R, writer: &mut W) -> io::Result<()> {
+    let mut buf = [0u8; 4096];
+    for _ in 0..u64::MAX {
+        let Some(n) = reading::read_behind_length::<4, R>(reader, &mut buf)? else {
             break;
-        }
-        done += n;
+        };
+        show(writer, &buf[..n])?;
+        say(writer, "\n")?;
     }
-    Ok(done)
+    Ok(())
 }
 
-// The next call's bytes come to the front of buf, and its line goes out. Says whether there was a call that fits.
-fn next<R: Read, W: Write>(reader: &mut R, writer: &mut W, buf: &mut [u8]) -> io::Result<bool> {
-    let mut head = [0u8; 4];
-    if read_full(reader, &mut head)? < 4 {
-        return Ok(false);
-    }
-    let n = octets::number(&head) as usize;
-    if buf.len() < n {
-        return Ok(false);
-    }
-    if read_full(reader, &mut buf[..n])? < n {
-        return Ok(false);
-    }
-    show(writer, &buf[..n])?;
-    say(writer, "\n")?;
-    Ok(true)
-}
-
-// A proved loop ends, and nothing says that the input does: the turns are counted to a number that no run uses up.
 fn main(rt: HostRuntime) -> io::Result<()> {
     let mut reader = rt.reader();
     let mut writer = io::writer(&rt);
-    let mut buf = [0u8; 4096];
-    for _ in 0..u64::MAX {
-        if !next(&mut reader, &mut writer, &mut buf)? {
-            break;
-        }
-    }
-    Ok(())
+    calls(&mut reader, &mut writer)
 }
