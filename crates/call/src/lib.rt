@@ -26,6 +26,7 @@ pub enum Parsed {
     Plain(Action, Plain),
     Policy(Deed, Policy),
     Expire(u64),
+    // A severity, or 255 for all, as the call and the active list have it.
     Active(u8),
     History {
         tenant: Option<Span>,

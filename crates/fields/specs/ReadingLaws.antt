@@ -1,14 +1,19 @@
 -- How readings join. A row of fields gives its value by `step` after `step` and `done` at its end; it is refused by `step` after `step` and
--- then `stops`, at a field that is refused, or `fails`, at a test. `tested` passes a test, `becomes` makes one value of another.
+-- then `stops`, at a field that is refused, or `fails`, at a test; `tested` passes a test. By `row_is` alone the check finds such a proof itself.
 use Rattle.std.specs.Prelude.{ℕ, ◌≡◌, refl, Bool, true, false, cond, drop, Result, Ok, Err, IsErr, IsErrAnd}
 use Rattle.std.proofs.Common.{ap, ◌∙◌, subst}
 use Rattle.octets.specs.Bytes.{Bytes}
-use Rattle.definition.specs.Reader.{Out, got, Reader, next, ◌>>=◌, give, refuse, into}
+use Rattle.definition.specs.Reader.{Out, Reader, next, ◌>>=◌, give, refuse}
 use Rattle.model.specs.declared.refusal.Refusal.{Refusal}
 use Rattle.model.specs.Refusal.{refusal_number}
 use Rattle.fields.specs.Reading.{Gives, Refuses}
 
 -- ---- rows
+
+-- what is read first, and what is read behind it
+pub row_is : {A D : Type 0} (r : Reader A) (k : A → Reader D) (s : Bytes) → (◌>>=◌ r k) s ≡ next (r s) k
+unfolding ◌>>=◌
+row_is r k s = refl
 
 module _ {A B D : Type 0} {s : Bytes} {i j : ℕ} {r : Reader B} {value : Bytes → A → B} {within : Bytes → A → Type 0} {a : A} where
   next_is : (k : B → Reader D) → Gives s i r value within a j → (◌>>=◌ r k) (drop i s) ≡ k (value s a) (drop j s)
@@ -39,17 +44,6 @@ stops {A} k a = record { out = ap (λ (o : Out A). next o k) a.out }
 pub fails : {B : Type 0} {s : Bytes} {i : ℕ} {ok : Bool} {e : Refusal} (r : Reader B) → ok ≡ false → Refuses s i (cond ok r (refuse (refusal_number e))) e
 fails r h = record { out = rw h }
 
--- ---- values of another kind
-
-module _ {A B C D : Type 0} {s : Bytes} {i : ℕ} {r : Reader B} where
-  pub becomes : {j : ℕ} {value : Bytes → A → B} {within : Bytes → A → Type 0} {a : A} {value' : Bytes → C → D} {within' : Bytes → C → Type 0} {b : C} (kind : B → D) → Gives s i r value within a j → kind (value s a) ≡ value' s b → within' s b → Gives s i (into kind r) value' within' b j
-  unfolding into
-  becomes {j} kind read e w = step _ read (record { out = ap (λ (v : D). got v (drop j s)) e; lies = w })
-
-pub into_stops : {B D : Type 0} {s : Bytes} {i : ℕ} {r : Reader B} {e : Refusal} (kind : B → D) → Refuses s i r e → Refuses s i (into kind r) e
-unfolding into
-into_stops kind a = stops _ a
-
 -- ---- the same call
 
 module _ {A B : Type 0} {c d : Bytes} {i : ℕ} {r : Reader B} where
@@ -65,8 +59,3 @@ along_refused h a = record { out = rw (← h) a.out }
 pub handed : {A : Type 0} (res : Result A Refusal) {e : Refusal} → IsErr res × IsErrAnd res (λ (x : Refusal). x ≡ e) → res ≡ Err e
 handed (Ok a) h = absurd h.1
 handed (Err x) h = ap Err h.1
-
--- what is read first, and what is read behind it
-pub row_is : {A D : Type 0} (r : Reader A) (k : A → Reader D) (s : Bytes) → (◌>>=◌ r k) s ≡ next (r s) k
-unfolding ◌>>=◌
-row_is r k s = refl

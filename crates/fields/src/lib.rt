@@ -6,8 +6,8 @@
 //
 // Nothing is copied: a string is a span, its place and its length. Each contract says that the function does what the definition's reader of
 // the same name does (Reader.antt), and that a span lies in what was lent, within its limit: who looks at its bytes later tests nothing.
-// `Finds` in specs/Part.antt is that promise on a part's bytes, `Reads` in specs/Reading.antt on a call's. specs/RowLaws.antt has the laws by
-// which the readers of a row of fields are proved: `along`, `step`, `stops`; specs/MovedLaws.antt those that carry an answer over.
+// `Finds` in specs/Reading.antt is that promise on a part's bytes, `Reads` on a call's. specs/ReadingLaws.antt has the laws by which the readers
+// of a row of fields are proved, of which most need only `row_is`; specs/MovedLaws.antt has those that carry an answer over.
 #![tactic(auto)]
 
 ghost use Rattle.std.specs.Prelude.{◌≡◌, ◌+◌, ◌^◌, ◌≤◌, ◌<◌, length, IsTrue, ◌↔◌};
@@ -28,7 +28,7 @@ use moved::Moved;
 pub use moved::Read;
 pub use part::{read_cause, read_choice, read_number, read_option, read_raise_text, read_text};
 
-// Which strings a field takes: those in UTF-8, or any bytes.
+// Which strings a field takes: those in UTF-8, or any bytes. Two names say at each field what a closure would have to spell out.
 #[derive(Clone, Copy)]
 pub enum StringKind {
     Text,
