@@ -122,7 +122,7 @@ fn show_object<W: Write>(writer: &mut W, call: &[u8], o: AffectedObject) -> io::
             queue,
         } => {
             show_pair(writer, call, 8, nf, interface)?;
-            show_number(writer, queue as u64)
+            show_number(writer, u64::from(queue))
         }
     }
 }
@@ -147,7 +147,7 @@ fn show_raise<W: Write>(writer: &mut W, call: &[u8], r: Raise) -> io::Result<()>
     show_number(writer, h.time)?;
     show_string(writer, call, h.id)?;
     show_string(writer, call, h.alarm_type)?;
-    show_number(writer, h.severity as u64)?;
+    show_number(writer, u64::from(h.severity))?;
     show_key(writer, call, r.key)?;
     show_string(writer, call, r.text)?;
     show_option(writer, call, r.details)
@@ -164,7 +164,7 @@ fn show_plain<W: Write>(writer: &mut W, call: &[u8], action: Action, p: Plain) -
     say_action(writer, action, "acknowledge", "suppress")?;
     show_number(writer, p.time)?;
     show_string(writer, call, p.id)?;
-    show_number(writer, p.authorised as u64)
+    show_number(writer, u64::from(p.authorised))
 }
 
 fn show_scope<W: Write>(writer: &mut W, call: &[u8], s: Scope) -> io::Result<()> {
@@ -200,8 +200,8 @@ fn show_policy<W: Write>(writer: &mut W, call: &[u8], deed: Deed, p: Policy) -> 
     show_string(writer, call, r.reason)?;
     show_scope(writer, call, r.scope)?;
     show_option(writer, call, r.correlation)?;
-    show_number(writer, v.critical_allowed as u64)?;
-    show_number(writer, v.authorised as u64)?;
+    show_number(writer, u64::from(v.critical_allowed))?;
+    show_number(writer, u64::from(v.authorised))?;
     show_string(writer, call, v.denial)
 }
 
@@ -225,11 +225,11 @@ fn show_parsed<W: Write>(writer: &mut W, call: &[u8], parsed: Parsed) -> io::Res
         Parsed::Plain(action, p) => show_plain(writer, call, action, p),
         Parsed::Policy(deed, p) => show_policy(writer, call, deed, p),
         Parsed::Expire(t) => show_numbered(writer, "expire", t),
-        Parsed::Active(v) => show_numbered(writer, "active", v as u64),
+        Parsed::Active(v) => show_numbered(writer, "active", u64::from(v)),
         Parsed::History { tenant, slice } => show_history(writer, call, tenant, slice),
         Parsed::Counts => say(writer, "counts"),
         Parsed::Summary => say(writer, "summary"),
-        Parsed::TakeAudit(n) => show_numbered(writer, "take-audit", n as u64),
+        Parsed::TakeAudit(n) => show_numbered(writer, "take-audit", u64::from(n)),
         Parsed::Lift(t) => show_numbered(writer, "lift", t),
     }
 }
@@ -237,7 +237,7 @@ fn show_parsed<W: Write>(writer: &mut W, call: &[u8], parsed: Parsed) -> io::Res
 fn show<W: Write>(writer: &mut W, call: &[u8]) -> io::Result<()> {
     match call::parse(call) {
         Ok(parsed) => show_parsed(writer, call, parsed),
-        Err(refusal) => show_numbered(writer, "refused", refusal as u64),
+        Err(refusal) => show_numbered(writer, "refused", u64::from(u32::from(refusal))),
     }
 }
 
