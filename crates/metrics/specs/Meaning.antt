@@ -5,6 +5,7 @@ use Rattle.definition.specs.Chain.{those}
 use Rattle.definition.specs.Key.{string}
 use Rattle.definition.specs.Answer.{Count, count_entries}
 use Rattle.definition.specs.Reports.{Rating, rating, same_rating, count_of, firsts_from, tally}
+use Rattle.metrics.specs.declared.table.Row.{Row}
 use Rattle.history.specs.Walk.{alarm_at, alarms_on, Reached}
 
 -- ---- the active chain
@@ -52,6 +53,12 @@ is_first b k i = is_new (rating_at b i) (take k (ratings b))
 
 -- ---- a table: records `is`, amounts `ns`; its first m rows
 
+abbrev pub records : List Row → List ℕ
+records rs = map (λ (r : Row). r.record) rs
+
+abbrev pub amounts : List Row → List ℕ
+amounts rs = map (λ (r : Row). r.amount) rs
+
 -- the most that it has room for
 abbrev pub most_rows : ℕ
 most_rows = 1024
@@ -85,7 +92,7 @@ pub record Table (b : Bytes) (k m : ℕ) (is ns : List ℕ) : Type 0 where
   pub small : (j : ℕ) → j < m → get_or ns j 0 ≤ k
 
 -- the row of a rating among the first m: none before r has it, and r has it unless it is m
-pub record Row (b : Bytes) (is : List ℕ) (m : ℕ) (q : Rating) (r : ℕ) : Type 0 where
+pub record RowOf (b : Bytes) (is : List ℕ) (m : ℕ) (q : Rating) (r : ℕ) : Type 0 where
   pub within : r ≤ m
   pub before : (j : ℕ) → j < r → same_rating (rating_at b (get_or is j 0)) q ≡ false
   pub here : r < m → same_rating (rating_at b (get_or is r 0)) q ≡ true
@@ -98,7 +105,7 @@ pub record CountedIn (ns : List ℕ) (m j : ℕ) (ns' : List ℕ) : Type 0 where
 -- of the row of record i's rating, which is row m where there is none: its amount is one more, or record i becomes row m, where there is room; then there are m' rows
 pub record Noted (b : Bytes) (i m : ℕ) (is ns : List ℕ) (m' : ℕ) (is' ns' : List ℕ) : Type 0 where
   pub row : ℕ
-  pub found : Row b is m (rating_at b i) row
+  pub found : RowOf b is m (rating_at b i) row
   pub room : row < most_rows
   pub counted : row < m → (m' ≡ m) × (is' ≡ is) × (ns' ≡ set ns row (get_or ns row 0 + 1))
   pub new : m ≤ row → (m' ≡ m + 1) × (is' ≡ set is m i) × (ns' ≡ set ns m 1)

@@ -8,7 +8,7 @@ ghost use Rattle.octets.specs.Bytes.{at32};
 ghost use Rattle.octets.specs.Put.{Put};
 ghost use Rattle.definition.specs.Sound.{sound};
 ghost use Rattle.history.specs.Walk.{records_on, Reached};
-ghost use Rattle.metrics.specs.Meaning.{Fits, rating_at, most_rows, AllFit, AllSmall, Row, CountedIn, Noted, Collected, Tallied, row_ratings, row_entries, sizes};
+ghost use Rattle.metrics.specs.Meaning.{Fits, rating_at, most_rows, records, amounts, AllFit, AllSmall, RowOf, CountedIn, Noted, Collected, Tallied, row_ratings, row_entries, sizes};
 
 use super::rating;
 use history::Walk;
@@ -18,50 +18,57 @@ use register::Chain;
 // The most rows.
 const ROOM: usize = 1024;
 
-// The first `rows` of `records` and `amounts` are its rows: they have the ratings of all places before `place`, at which
-// record `at` stands.
+// The record in which a rating appears first, and how often it appears.
+#[derive(Clone, Copy)]
+struct Row {
+    record: u32,
+    amount: u32,
+}
+
+// The first `held` of `rows` are its rows: they have the ratings of all places before `place`, at which record `at` stands.
 #[derive(Drop)]
 pub(crate) struct Table {
-    pub(crate) rows: usize,
+    pub(crate) held: usize,
     pub(crate) place: u32,
     pub(crate) at: u32,
-    records: [u32; ROOM],
-    amounts: [u32; ROOM],
+    rows: [Row; ROOM],
 }
 
 impl Table {
     // A table that covers nothing.
     pub(crate) fn new() -> Table
-        ensures { (result.rows ≡ 0)
+        ensures { (result.held ≡ 0)
             × (result.place ≡ 0)
             × (result.at ≡ 0)
-            × (length result.records ≡ most_rows)
-            × (length result.amounts ≡ most_rows) }
+            × (length (records result.rows) ≡ most_rows)
+            × (length (amounts result.rows) ≡ most_rows) }
     {
         Table {
-            rows: 0,
+            held: 0,
             place: 0,
             at: 0,
-            records: [0; ROOM],
-            amounts: [0; ROOM],
+            rows: [Row {
+                record: 0,
+                amount: 0,
+            }; ROOM],
         }
     }
 
     // The row that has the rating of record i's alarm, if one has it.
     pub(crate) fn row_of(&self, register: &[u8], i: u32) -> Option<usize>
-        requires { (self.now.rows ≤ most_rows)
-            × AllFit register.now self.now.rows self.now.records
+        requires { (self.now.held ≤ most_rows)
+            × AllFit register.now self.now.held (records self.now.rows)
             × Fits register.now i }
-        ensures row { Row
+        ensures row { RowOf
             register.now
-            self.now.records
-            self.now.rows
+            (records self.now.rows)
+            self.now.held
             (rating_at register.now i)
-            (unwrap_or result self.now.rows) }
-        ensures within { IfSome result (λ j. j < self.now.rows) }
+            (unwrap_or result self.now.held) }
+        ensures within { IfSome result (λ j. j < self.now.held) }
     {
-        for j in 0..self.rows {
-            if rating::same(register, self.records[j], i) {
+        for (j, row) in self.rows[..self.held].iter().enumerate() {
+            if rating::same(register, row.record, i) {
                 return Some(j);
             }
         }
@@ -70,40 +77,40 @@ impl Table {
 
     // Adds one to the amount of a row, if it is one.
     fn count_in(&mut self, row: Option<usize>)
-        requires { (self.old.rows ≤ most_rows)
-            × AllSmall self.old.rows self.old.amounts
-            × IfSome row (λ j. j < self.old.rows) }
+        requires { (self.old.held ≤ most_rows)
+            × AllSmall self.old.held (amounts self.old.rows)
+            × IfSome row (λ j. j < self.old.held) }
         ensures counted { CountedIn
-            self.old.amounts
-            self.old.rows
-            (unwrap_or row self.old.rows)
-            self.new.amounts }
-        ensures same_rows { self.new.rows ≡ self.old.rows }
+            (amounts self.old.rows)
+            self.old.held
+            (unwrap_or row self.old.held)
+            (amounts self.new.rows) }
+        ensures same_rows { self.new.held ≡ self.old.held }
         ensures same_place { self.new.place ≡ self.old.place }
         ensures same_at { self.new.at ≡ self.old.at }
-        ensures same_records { self.new.records ≡ self.old.records }
+        ensures same_records { records self.new.rows ≡ records self.old.rows }
     {
         if let Some(j) = row {
-            self.amounts[j] += 1;
+            self.rows[j].amount += 1;
         }
     }
 
     // Adds record i's alarm: to the amount of its row, or as a row of its own. False where it has no row and none is left;
     // then nothing changes.
     fn note(&mut self, register: &[u8], i: u32) -> bool
-        requires { (self.old.rows ≤ most_rows)
-            × AllFit register.now self.old.rows self.old.records
+        requires { (self.old.held ≤ most_rows)
+            × AllFit register.now self.old.held (records self.old.rows)
             × Fits register.now i
-            × AllSmall self.old.rows self.old.amounts }
+            × AllSmall self.old.held (amounts self.old.rows) }
         ensures added { result ≡ true → Noted
             register.now
             i
-            self.old.rows
-            self.old.records
-            self.old.amounts
-            self.new.rows
-            self.new.records
-            self.new.amounts }
+            self.old.held
+            (records self.old.rows)
+            (amounts self.old.rows)
+            self.new.held
+            (records self.new.rows)
+            (amounts self.new.rows) }
         ensures left { result ≡ false → self.new ≡ self.old }
         ensures same_place { self.new.place ≡ self.old.place }
         ensures same_at { self.new.at ≡ self.old.at }
@@ -113,12 +120,14 @@ impl Table {
             self.count_in(row);
             return true;
         }
-        if self.rows == ROOM {
+        if self.held == ROOM {
             return false;
         }
-        self.records[self.rows] = i;
-        self.amounts[self.rows] = 1;
-        self.rows += 1;
+        self.rows[self.held] = Row {
+            record: i,
+            amount: 1,
+        };
+        self.held += 1;
         true
     }
 
@@ -129,9 +138,9 @@ impl Table {
             register.now
             result.place
             result.at
-            result.rows
-            result.records
-            result.amounts }
+            result.held
+            (records result.rows)
+            (amounts result.rows) }
     {
         let mut table = Table::new();
         for i in history::records(register, Chain::Active) {
@@ -164,14 +173,14 @@ impl Table {
             register.now
             self.old.place
             self.old.at
-            self.old.rows
-            self.old.records
-            self.old.amounts }
-        ensures counted { Tallied register.now self.new.rows self.new.records self.new.amounts }
-        ensures same_rows { self.new.rows ≡ self.old.rows }
+            self.old.held
+            (records self.old.rows)
+            (amounts self.old.rows) }
+        ensures counted { Tallied register.now self.new.held (records self.new.rows) (amounts self.new.rows) }
+        ensures same_rows { self.new.held ≡ self.old.held }
         ensures same_place { self.new.place ≡ self.old.place }
         ensures same_at { self.new.at ≡ self.old.at }
-        ensures same_records { self.new.records ≡ self.old.records }
+        ensures same_records { records self.new.rows ≡ records self.old.rows }
     {
         for i in self.behind(register) {
             let row = self.row_of(register, i);
@@ -181,38 +190,37 @@ impl Table {
 
     // Where the entries of the rows end in the answer.
     pub(crate) fn rows_end(&self, register: &[u8]) -> usize
-        requires { (self.now.rows ≤ most_rows)
-            × AllFit register.now self.now.rows self.now.records
-            × (length self.now.records ≡ most_rows) }
-        ensures { result ≡ 16 + sizes (row_ratings register.now self.now.rows self.now.records) }
+        requires { (self.now.held ≤ most_rows)
+            × AllFit register.now self.now.held (records self.now.rows)
+            × (length (records self.now.rows) ≡ most_rows) }
+        ensures { result ≡ 16 + sizes (row_ratings register.now self.now.held (records self.now.rows)) }
     {
         let mut end = Answer::HEAD;
-        for j in 0..self.rows {
-            end += rating::ENTRY + rating::cause(register, self.records[j]).len();
+        for row in &self.rows[..self.held] {
+            end += rating::ENTRY + rating::cause(register, row.record).len();
         }
         end
     }
 
     // Puts the entries of the rows into the answer, behind its head.
     pub(crate) fn put_rows(&self, register: &[u8], answer: &mut [u8]) -> usize
-        requires { Tallied register.now self.now.rows self.now.records self.now.amounts
-            × (16 + length (row_entries register.now self.now.rows self.now.records self.now.amounts) ≤ length answer.old) }
+        requires { Tallied register.now self.now.held (records self.now.rows) (amounts self.now.rows)
+            × (16 + length (row_entries register.now self.now.held (records self.now.rows) (amounts self.now.rows)) ≤ length answer.old) }
         ensures { Put
             answer.old
             16
-            (row_entries register.now self.now.rows self.now.records self.now.amounts)
+            (row_entries register.now self.now.held (records self.now.rows) (amounts self.now.rows))
             result
             answer.new }
     {
         let mut end = Answer::HEAD;
-        for j in 0..self.rows {
-            let i = self.records[j];
+        for row in &self.rows[..self.held] {
             end = answers::put_count(
                 answer,
                 end,
-                rating::severity(register, i),
-                self.amounts[j],
-                rating::cause(register, i),
+                rating::severity(register, row.record),
+                row.amount,
+                rating::cause(register, row.record),
             );
         }
         end

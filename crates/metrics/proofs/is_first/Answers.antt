@@ -25,7 +25,7 @@ returns-then-is_some c =
 pub loop-j-init : goal.loop-j-init
 loop-j-init c =
     let q = rating_at c.args.register.now c.args.i in
-    let above = none_above c.row_of.result c.args.table.now.rows (sym c.is_some.ensures ∙ c.if-is_some.false) in
+    let above = none_above c.row_of.result c.args.table.now.held (sym c.is_some.ensures ∙ c.if-is_some.false) in
     let t = c.take-j-items.ensures in
     rw (c.into_iter-j-iterator.ensures.into_iter_gives) (
       c.args.table.now.place,
