@@ -1,11 +1,14 @@
 -- The rows of a table, each a record and an amount: read, counted in, and added.
 use Prim.Native.Nat.{ℕ, ◌+◌, ◌≤◌, ◌<◌}
-use Rattle.std.specs.Prelude.{◌≡◌, false, length, take, get_or, set, Option}
+use Rattle.std.specs.Prelude.{◌≡◌, Bool, true, false, MatchOption, Some, None, length, take, get_or, set, Option}
 use Rattle.std.proofs.Math.Path.{refl, sym, ap}
 use Rattle.std.proofs.Common.{◌∙◌, subst, arith, length-take, get_or-take}
 use Rattle.std.proofs.Math.ListN.{get_or-map}
 use Rattle.std.proofs.Math.Seq.{map-set_same}
 use Rattle.std.proofs.lemmas.List.{map-set}
+use Rattle.std.proofs.lemmas.List.{get_or-map as mapped_at}
+use Rattle.std.specs.List.{AllWithin, HoldsAt}
+use Rattle.definition.specs.Reports.{Rating, same_rating}
 use mathlib.Core.List.{List}
 use Rattle.std.specs.Option.{is_some, unwrap_or}
 use Rattle.octets.specs.Bytes.{Bytes}
@@ -40,6 +43,36 @@ module _ (m j : ℕ) (rs : List Row) (h : j < length (take m rs)) where
 
   pub record_fits : (b : Bytes) → AllFit b m (records rs) → Fits b here.record
   record_fits b f = subst (Fits b) (sym record_here) (f j row_within)
+
+-- a row that is found among the first m
+pub fits_at : (m j : ℕ) (rs : List Row) (b : Bytes) (r : Row) → AllFit b m (records rs) → j < length (take m rs) → r ≡ get_or (take m rs) j r → Fits b r.record
+fits_at m j rs b r f h e =
+    let w : j < m = omega (arith, h, length-take m rs) in
+    let l : j < length rs = omega (arith, h, length-take m rs) in
+    subst (Fits b) (sym (ap record_of (e ∙ get_or-take m rs j r w) ∙ sym (mapped_at record_of rs j r 0 l))) (f j w)
+
+-- whether its rating is q
+abbrev pub has : Bytes → Rating → Bool → Row → Type 0
+has b q t r = same_rating (rating_at b r.record) q ≡ t
+
+pub row_found :
+    (b : Bytes) (m : ℕ) (rs : List Row) (q : Rating) (r : Option ℕ) → m ≤ length rs →
+    MatchOption r (AllWithin (has b q false) (take m rs) 0 (length (take m rs))) (λ i. (i < length (take m rs)) × HoldsAt (has b q true) (take m rs) i × AllWithin (has b q false) (take m rs) 0 i) →
+    RowOf b (records rs) m q (unwrap_or r m)
+row_found b m rs q None l w = record {
+  within = omega arith;
+  before = λ j h.
+      let g : j < length (take m rs) = omega (arith, h, l, length-take m rs) in
+      subst (λ (i : ℕ). same_rating (rating_at b i) q ≡ false) (record_here m j rs g) (w j (row 0 0) (omega arith) g);
+  here = λ h. absurd (omega arith);
+}
+row_found b m rs q (Some i) l w = record {
+  within = omega (arith, row_within m i rs w.0);
+  before = λ j h.
+      let g : j < length (take m rs) = omega (arith, h, w.0) in
+      subst (λ (i : ℕ). same_rating (rating_at b i) q ≡ false) (record_here m j rs g) (w.2 j (row 0 0) (omega arith) h);
+  here = λ h. subst (λ (i : ℕ). same_rating (rating_at b i) q ≡ true) (record_here m i rs w.0) (w.1 (row 0 0));
+}
 
 -- all m are passed
 pub rows_passed : (m j : ℕ) (rs : List Row) → m ≤ most_rows → length (records rs) ≡ most_rows → length (take m rs) ≤ j → m ≤ j

@@ -67,12 +67,9 @@ impl Table {
             (unwrap_or result self.now.held) }
         ensures within { IfSome result (λ j. j < self.now.held) }
     {
-        for (j, row) in self.rows[..self.held].iter().enumerate() {
-            if rating::same(register, row.record, i) {
-                return Some(j);
-            }
-        }
-        None
+        self.rows[..self.held]
+            .iter()
+            .position(|row| rating::same(register, row.record, i))
     }
 
     // Adds one to the amount of a row, if it is one.

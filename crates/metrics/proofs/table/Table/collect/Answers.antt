@@ -2,7 +2,7 @@
 use mathlib.Core.Path.{◌∙◌}
 use native.Mathlib.Omega.{arith}
 use Rattle.history.specs.WalkLaws.{reached_most}
-use Rattle.metrics.specs.RowLaws.{collecting_first, collecting_place, collecting_fits, collecting_small, collecting_at, collecting_next, collecting_all}
+use Rattle.metrics.specs.TableWalkLaws.{collecting_first, collecting_place, collecting_fits, collecting_small, collecting_at, collecting_next, collecting_all}
 use Rattle.metrics.proofs.table.Table.collect.Goals as goal
 
 pub loop-i-init : goal.loop-i-init

@@ -1,7 +1,7 @@
 -- `collect`: the rows are the tally of the places passed.
 use mathlib.Core.Path.{◌≡◌}
 use Rattle.metrics.specs.Meaning.{records, amounts}
-use Rattle.metrics.specs.RowLaws.{Collecting}
+use Rattle.metrics.specs.TableWalkLaws.{Collecting}
 use Rattle.metrics.proofs.table.Table.collect.Given as goal
 
 abbrev pub invariant-loop-i : goal.invariant-loop-i

@@ -1,6 +1,7 @@
 -- `count_on`: with the rest added, the rows are the first of the tally; all but the amounts is as it was.
 use mathlib.Core.Path.{refl, ◌∙◌}
-use Rattle.metrics.specs.RowLaws.{ahead_from, counting_none, counting_fits, counting_small, counting_next, counting_all}
+use Rattle.metrics.specs.RowLaws.{ahead_from}
+use Rattle.metrics.specs.TableWalkLaws.{counting_none, counting_fits, counting_small, counting_next, counting_all}
 use Rattle.metrics.proofs.table.Table.count_on.Goals as goal
 
 pub loop-i-init : goal.loop-i-init

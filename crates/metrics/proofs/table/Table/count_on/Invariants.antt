@@ -1,7 +1,7 @@
 -- `count_on`: with the rest added, the rows are the first of the tally; all but the amounts is as it was.
 use mathlib.Core.Path.{◌≡◌}
 use Rattle.metrics.specs.Meaning.{records, amounts}
-use Rattle.metrics.specs.RowLaws.{Counting}
+use Rattle.metrics.specs.TableWalkLaws.{Counting}
 use Rattle.metrics.proofs.table.Table.count_on.Given as goal
 
 abbrev pub invariant-loop-i : goal.invariant-loop-i
