@@ -1,5 +1,6 @@
 -- The string that is put behind its length is the cause.
 use mathlib.Core.Path.{ap, ◌∙◌}
+use native.Mathlib.Omega.{arith}
 use Rattle.octets.specs.Bytes.{Bytes, splice}
 use Rattle.definition.specs.Slot.{string_bytes}
 use Rattle.model.specs.Meaning.{cause_part}
@@ -12,11 +13,11 @@ written-requires c = in_slice c.put_cause.ensures
 
 pub slice_bounds-cause-count : goal.slice_bounds-cause-count
 slice_bounds-cause-count c =
-    length_before (cause_part c.args.call.now c.args.c) (c.written.ensures ∙ written_is c.new-writer.ensures.place c.put_cause.ensures)
+    omega (arith, length_before (cause_part c.args.call.now c.args.c) (c.written.ensures ∙ written_is c.new-writer.ensures.place c.put_cause.ensures))
 
 pub slice_bounds-cause-start : goal.slice_bounds-cause-start
 slice_bounds-cause-start c =
-    length_before (cause_part c.args.call.now c.args.c) (c.written.ensures ∙ written_is c.new-writer.ensures.place c.put_cause.ensures)
+    omega (arith, length_before (cause_part c.args.call.now c.args.c) (c.written.ensures ∙ written_is c.new-writer.ensures.place c.put_cause.ensures))
 
 pub returns : goal.returns
 returns c =
