@@ -128,26 +128,30 @@ impl Table {
         true
     }
 
-    // The table of the active alarms, as far as there is room for their ratings.
-    pub(crate) fn collect(register: &[u8]) -> Table
-        requires { T (sound register.now) }
+    // Adds the active alarms to an empty table, as far as there is room for their ratings. In its place: a table that was given back would stand
+    // on the stack twice.
+    pub(crate) fn collect(&mut self, register: &[u8])
+        requires sound { T (sound register.now) }
+        requires empty { (self.old.held ≡ 0)
+            × (self.old.place ≡ 0)
+            × (self.old.at ≡ 0)
+            × (length (records self.old.rows) ≡ most_rows)
+            × (length (amounts self.old.rows) ≡ most_rows) }
         ensures { Collected
             register.now
-            result.place
-            result.at
-            result.held
-            (records result.rows)
-            (amounts result.rows) }
+            self.new.place
+            self.new.at
+            self.new.held
+            (records self.new.rows)
+            (amounts self.new.rows) }
     {
-        let mut table = Table::new();
         for i in history::records(register, Chain::Active) {
-            if !table.note(register, i) {
-                table.at = i;
-                return table;
+            if !self.note(register, i) {
+                self.at = i;
+                return;
             }
-            table.place += 1;
+            self.place += 1;
         }
-        table
     }
 
     // The records of the places that the table does not cover.

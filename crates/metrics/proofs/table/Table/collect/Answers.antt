@@ -7,8 +7,8 @@ use Rattle.metrics.proofs.table.Table.collect.Goals as goal
 
 pub loop-i-init : goal.loop-i-init
 loop-i-init c =
-    let n = c.new-table.ensures in
-    (rw (n.0, n.1) (collecting_first _ _ c.requires (c.into_iter-i-iterator.ensures.into_iter_gives ∙ c.records-i-items.ensures) n.3 n.4), n.2)
+    let n = c.requires.empty in
+    (rw (n.0, n.1) (collecting_first _ _ c.requires.sound (c.into_iter-i-iterator.ensures.into_iter_gives ∙ c.records-i-items.ensures) n.3 n.4), n.2)
 
 pub note-requires : goal.note-requires
 note-requires c =
@@ -20,8 +20,8 @@ pub returns-then-not-note : goal.returns-then-not-note
 returns-then-not-note c =
     rw (c.note.ensures.left c.if-not-note.true) (collecting_at c.loop-i.invariant.0 c.in-Some.ensures.steps)
 
-pub overflow_add-table : goal.overflow_add-table
-overflow_add-table c =
+pub overflow_add-self : goal.overflow_add-self
+overflow_add-self c =
     let p = collecting_place c.loop-i.invariant.0 c.in-Some.ensures.steps in
     omega (arith, c.note.ensures.same_place, p.within, reached_most p.reached)
 

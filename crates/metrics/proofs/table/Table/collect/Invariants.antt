@@ -5,4 +5,4 @@ use Rattle.metrics.specs.TableWalkLaws.{Collecting}
 use Rattle.metrics.proofs.table.Table.collect.Given as goal
 
 abbrev pub invariant-loop-i : goal.invariant-loop-i
-invariant-loop-i l = Collecting l.register l.table.place l.table.held (records l.table.rows) (amounts l.table.rows) l.i-iterator × (l.table.at ≡ 0)
+invariant-loop-i l = Collecting l.register l.self.place l.self.held (records l.self.rows) (amounts l.self.rows) l.i-iterator × (l.self.at ≡ 0)
