@@ -1,7 +1,7 @@
 // The bytes of answers. An answer is a head of 16 bytes and a body behind it: the definition's `answer_bytes` for each
 // of its answers (definition, specs/Answer.antt).
 //
-// Each function writes into the answer slice from a place on and returns the place behind what it wrote; its contract
+// Each function writes into the answer slice, at its start or from a place on, and returns the place behind what it wrote; its contract
 // is `Put` of octets, which says just that of the bytes. So parts join to whole answers by one law, `put_two`, here
 // and in the crates that answer. Every part fits: the caller has refused with 30 before anything is written.
 //

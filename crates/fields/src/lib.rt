@@ -1,6 +1,6 @@
 // The fields of a call: numbers, choices, strings, options and causes, read one behind the other from its bytes.
 //
-// Each field has two readers. `read_number` and its like (src/part.rt) receive a part of the call, what is left of it, and read the field
+// Each field but a flag has two readers. `read_number` and its like (src/part.rt) receive a part of the call, what is left of it, and read the field
 // at the part's start: no place of the call comes into them. The methods of `Reader` keep the places: they lend what is left of the call to
 // the reader of the part, carry its answer over to the call's places, and go on behind the field. The first refusal ends a row of fields.
 //
