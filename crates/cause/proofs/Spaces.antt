@@ -1,9 +1,9 @@
 -- White space by its first bytes, by computed tests.
 use Rattle.std.specs.Prelude.{◌≡◌, ℕ, true, false, cond, ◌||◌, [], ◌∷◌, ◌≤◌, ◌<◌, eqb, Option, Some, None, SomeIff, IfSome, is_some}
-use Rattle.std.proofs.Common.{sym, arith, eq-eqb, eqb-true, ne_eqb}
+use Rattle.std.proofs.Common.{sym, arith, eq-eqb, eqb-true, eqb→eq, ne_eqb}
 use Rattle.octets.specs.Bytes.{begins}
 use Rattle.octets.specs.BoolLaws.{holds, true_holds, same_tests}
-use Rattle.octets.specs.RangeLaws.{eq_on}
+use Rattle.octets.specs.RangeLaws.{on_range, eq_on}
 use Rattle.definition.specs.White.{space, front_of}
 
 pub eqb_swap : (a b : ℕ) → eqb a b ≡ eqb b a
@@ -29,6 +29,12 @@ unfolding space front_of begins
 none_behind a b c l h n p q r s =
     rw (ne_eqb a 0x20 n, ne_eqb a 0xC2 p, ne_eqb a 0xE1 q, ne_eqb a 0xE2 r, ne_eqb a 0xE3 s) at
     (eq_on (λ (x : ℕ). cond (eqb x 0x20 || (eqb x 0xC2 || (eqb x 0xE1 || (eqb x 0xE2 || eqb x 0xE3)))) 0 (space (x ∷ b ∷ c ∷ []))) 0 242 14 tt a l h)
+
+-- below C2 the first byte decides
+pub by_first : (a b c : ℕ) → a < 0xC2 → space (a ∷ 0 ∷ 0 ∷ []) ≡ space (a ∷ b ∷ c ∷ [])
+unfolding space front_of begins
+by_first a b c h =
+    eqb→eq _ _ (on_range (λ (x : ℕ). eqb (space (x ∷ 0 ∷ 0 ∷ [])) (space (x ∷ b ∷ c ∷ []))) 0xC2 0 tt a (omega arith) (omega (arith, h)))
 
 pub within_at : (r : Option ℕ) (n m : ℕ) → n ≤ m → SomeIff r (0 < n) n → IfSome r (λ k. k ≤ m)
 within_at None n m h e = tt

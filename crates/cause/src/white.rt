@@ -63,12 +63,17 @@ fn byte_at(s: &[u8], i: usize) -> u8
     s.get(i).copied().unwrap_or(0)
 }
 
-// How many bytes the white space character takes that s begins with, if it begins with one.
+// How many bytes the white space character takes that s begins with, if it begins with one. Below C2 the first byte decides, and the two behind
+// it are left alone: each letter of each stored cause is asked at every call.
 pub(crate) fn space(s: &[u8]) -> Option<usize>
     ensures tells { SomeIff result (0 < space s.now) (space s.now) }
     ensures within { IfSome result (λ n. n ≤ length s.now) }
 {
-    space_of(byte_at(s, 0), byte_at(s, 1), byte_at(s, 2))
+    let first = byte_at(s, 0);
+    if first < 0xC2 {
+        return space_of(first, 0, 0);
+    }
+    space_of(first, byte_at(s, 1), byte_at(s, 2))
 }
 
 // The place at which s starts without the white space at its start.

@@ -69,23 +69,25 @@ fn step_by<W: Write>(
     show(writer, number, answer, length)
 }
 
-// A step: the answer's length, a byte that is not used, and the call behind its length. Says whether there was one that fits.
+// A step: the answer's length, a byte that is not used, the call's length, and the call. Says whether there was one that fits; a call with no
+// room, its own or its answer's, is not waited for.
 fn step<R: Read, W: Write>(
     reader: &mut R,
     writer: &mut W,
     register: &mut [u8],
 ) -> io::Result<bool> {
-    let mut fields = [0u8; 5];
-    if reading::read_full(reader, &mut fields)? < 5 {
+    let mut fields = [0u8; 9];
+    if reading::read_full(reader, &mut fields)? < 9 {
         return Ok(false);
     }
     let room = octets::get32(&fields, 0) as usize;
+    let n = octets::get32(&fields, 5) as usize;
     let mut call = [0u8; 4096];
-    let Some(n) = reading::read_behind_length::<4, R>(reader, &mut call)? else {
-        return Ok(false);
-    };
     let mut answer = [0u8; 19968];
-    if answer.len() < room {
+    if call.len() < n || answer.len() < room {
+        return Ok(false);
+    }
+    if reading::read_full(reader, &mut call[..n])? < n {
         return Ok(false);
     }
     step_by(writer, register, &call[..n], &mut answer[..room])?;

@@ -1,7 +1,7 @@
--- Laws of bytes replaced in part: splices beside, behind and after one another, and what a store and lent parts leave.
-use Rattle.std.specs.Prelude.{◌≡◌, [], ◌∷◌, ◌++◌, ℕ, suc, ◌+◌, ◌-◌, ◌≤◌, ◌<◌, take, set}
+-- Laws of bytes replaced in part: splices beside, behind and after one another, and what loops and lent parts leave.
+use Rattle.std.specs.Prelude.{◌≡◌, [], ◌∷◌, ◌++◌, ℕ, suc, ◌+◌, ◌-◌, ◌≤◌, ◌<◌, take, get_or, set}
 use Rattle.std.proofs.Math.Path.{refl, ap}
-use Rattle.std.proofs.Common.{sym, ◌∙◌, append_assoc, append-nil, add_assoc, add-zero, zero-add, arith, length-append, length-take, length-drop, take-append-drop, drop_at, drop-drop, length-take-le}
+use Rattle.std.proofs.Common.{sym, ◌∙◌, append_assoc, append-nil, add_assoc, add-zero, zero-add, add-one, arith, length-append, length-take, length-drop, take-append-drop, drop_at, drop-drop, length-take-le, take-suc, take-suc-set}
 use Rattle.std.proofs.Math.ListN.{length, drop}
 use Rattle.std.proofs.Math.Seq.{take_at, take-append-add, drop-append-add, drop-length}
 use Rattle.std.proofs.lemmas.List.{take-append-le, drop-append-le, set_split}
@@ -75,13 +75,17 @@ after_two b c d k v k' v' p q = rw (← q) p
 pub marked_splices : (b x z v : Bytes) (at k : ℕ) → at + 1 + length v ≤ length b → x ≡ splice b at (k ∷ []) → z ≡ splice x (at + 1) v → z ≡ splice b at (k ∷ v)
 marked_splices b x z v at k h ex ez = ez ∙ ap (λ (t : Bytes). splice t (at + 1) v) ex ∙ splice_two b at 1 (k ∷ []) v refl h
 
--- ---- a store
+-- ---- a store, and the step of a loop that stores
 
 pub set_splice : (b : Bytes) (k v : ℕ) → k < length b → set b k v ≡ splice b k (v ∷ [])
 unfolding splice
 set_splice b k v h =
     let e : suc k ≡ k + 1 = omega arith in
     set_split b k v h ∙ ap (λ (m : ℕ). take k b ++ (v ∷ drop m b)) e
+
+-- one more byte of a copy
+pub copy_step : (d s : Bytes) (i : ℕ) → i < length d → i < length s → take i d ≡ take i s → take (i + 1) (set d i (get_or s i 0)) ≡ take (i + 1) s
+copy_step d s i h l q = rw (add-one, take-suc-set, take-suc s i 0, q)
 
 -- ---- parts that were lent
 

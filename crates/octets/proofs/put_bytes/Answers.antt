@@ -4,4 +4,4 @@ use Rattle.octets.specs.SpliceLaws.{back}
 use Rattle.octets.proofs.put_bytes.Goals as goal
 
 pub returns : goal.returns
-returns c = back c.args.s.now c.args.at _ _ _ c.copy_from_slice.ensures.after (omega arith)
+returns c = back c.args.s.now c.args.at _ _ _ c.copy.ensures (omega arith)
