@@ -21,6 +21,12 @@ use Rattle.record_check.specs.Ruler.{highs, ones, ruler_bytes, under}
 
 -- ---- byte by byte
 
+pub under_length : (s r : Bytes) → length s ≡ length r → length (under s r) ≡ length s
+unfolding under
+under_length [] r h = refl
+under_length (b ∷ s) [] h = absurd (omega arith)
+under_length (b ∷ s) (m ∷ r) h = ap suc (under_length s r (omega arith))
+
 first_zero : (x : ℕ) → eqb 0 x ≡ eqb x 0
 first_zero zero = refl
 first_zero (suc x) = rw (ne_eqb 0 (suc x) (omega arith), ne_eqb (suc x) 0 (omega arith))
@@ -53,6 +59,10 @@ unfolding ruler_bytes highs ones
 ruler_made =
     ap (λ (r : Bytes). replicate 512 128 ++ drop 512 r) (split 512 512 255 {n = 1024} refl)
     ∙ ap (◌++◌ (replicate 512 128)) (drop_at (replicate 512 255) (replicate 512 255) 512 (length-replicate {A = ℕ} 512 255))
+
+pub length_ruler : length ruler_bytes ≡ 1024
+unfolding ruler_bytes highs ones
+length_ruler = length-append {A = ℕ} (replicate 512 128) (replicate 512 255) ∙ ap₂ ◌+◌ (length-replicate {A = ℕ} 512 128) (length-replicate {A = ℕ} 512 255)
 
 module _ (m k j : ℕ) (h : 512 ≡ j + m) (l : k ≤ 512) where
   whole : ruler_bytes ≡ highs j ++ ((highs m ++ ones k) ++ ones (512 - k))
