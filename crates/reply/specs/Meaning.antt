@@ -20,3 +20,12 @@ Replies (Err e) m b b' a a' = Refuses m b b' a a' (refusal_number e)
 abbrev pub length_in : Reply → ℕ
 length_in (Ok n) = n
 length_in (Err e) = 0
+
+-- the same of a reply that is refused by a number
+abbrev pub number_told : Result ℕ ℕ → ℕ
+number_told (Ok n) = 0
+number_told (Err k) = k
+
+abbrev pub length_told : Result ℕ ℕ → ℕ
+length_told (Ok n) = n
+length_told (Err k) = 0

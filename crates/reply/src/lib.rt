@@ -8,28 +8,36 @@
 
 ghost use Rattle.std.specs.Prelude.{◌≡◌};
 ghost use Rattle.model.specs.Refusal.{number_in};
-ghost use Rattle.reply.specs.Meaning.{length_in};
+ghost use Rattle.reply.specs.Meaning.{length_in, number_told, length_told};
 
 use model::Refusal;
 
 // The answer's length, or why there is none.
 pub type Reply = Result<usize, Refusal>;
 
-// Returns the reply's number and sets its length, as a host is told them.
-pub fn tell(reply: Reply, length: &mut u64) -> u32
-    ensures value { result ≡ number_in reply }
-    ensures length_after { length.new ≡ length_in reply }
+// Returns the number and sets the length of a reply that is refused by a number, whatever that is.
+pub fn tell_number(reply: Result<usize, u32>, length: &mut u64) -> u32
+    ensures value { result ≡ number_told reply }
+    ensures length_after { length.new ≡ length_told reply }
 {
     match reply {
         Ok(n) => {
             *length = n as u64;
             0
         }
-        Err(refusal) => {
+        Err(number) => {
             *length = 0;
-            u32::from(refusal)
+            number
         }
     }
+}
+
+// Returns the reply's number and sets its length, as a host is told them.
+pub fn tell(reply: Reply, length: &mut u64) -> u32
+    ensures value { result ≡ number_in reply }
+    ensures length_after { length.new ≡ length_in reply }
+{
+    tell_number(reply.map_err(|refusal| u32::from(refusal)), length)
 }
 
 // The same of a call that has no answer: its length is 0.
