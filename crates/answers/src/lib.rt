@@ -26,11 +26,11 @@ mod code;
 pub use code::Code;
 
 // A head: code, three zeros, item count, number.
-pub fn put_head(answer: &mut [u8], code: Code, count: u32, number: u64) -> usize
+pub fn put_head(answer: &mut [u8], code: u8, count: u32, number: u64) -> usize
     requires { 16 ≤ length answer.old }
-    ensures { Put answer.old 0 (head_bytes (head (code_number code) count number)) result answer.new }
+    ensures { Put answer.old 0 (head_bytes (head code count number)) result answer.new }
 {
-    octets::put_byte(answer, 0, u8::from(code));
+    octets::put_byte(answer, 0, code);
     octets::put_zeros(answer, 1, 3);
     octets::put32(answer, 4, count);
     octets::put64(answer, 8, number);
@@ -68,11 +68,11 @@ pub fn put_count(answer: &mut [u8], at: usize, severity: u8, amount: u32, cause:
 // ---- whole answers
 
 // An alarm: codes 1, 2, 6 and 7.
-pub fn put_alarm(answer: &mut [u8], code: Code, payload: &Payload) -> usize
+pub fn put_alarm(answer: &mut [u8], code: u8, payload: &Payload) -> usize
     requires { 1552 ≤ length answer.old }
     ensures { Answered
         answer.old
-        (head (code_number code) 1 0)
+        (head code 1 0)
         (be32 0 ++ payload.now)
         result
         answer.new }
@@ -82,9 +82,9 @@ pub fn put_alarm(answer: &mut [u8], code: Code, payload: &Payload) -> usize
 }
 
 // An id or a message: codes 3, 8, 9 and 10.
-pub fn put_text(answer: &mut [u8], code: Code, s: &[u8]) -> usize
+pub fn put_text(answer: &mut [u8], code: u8, s: &[u8]) -> usize
     requires { (20 + length s.now ≤ length answer.old) × (length s.now < 4294967296) }
-    ensures { Answered answer.old (head (code_number code) 0 0) (string s.now) result answer.new }
+    ensures { Answered answer.old (head code 0 0) (string s.now) result answer.new }
 {
     let n = put_head(answer, code, 0, 0);
     let mut writer = Writer::new(answer, n);
@@ -97,7 +97,7 @@ pub fn put_number(answer: &mut [u8], n: u64) -> usize
     requires { 16 ≤ length answer.old }
     ensures { Answered answer.old (head 11 0 n) [] result answer.new }
 {
-    put_head(answer, Code::Report, 0, n)
+    put_head(answer, Code::Report as u8, 0, n)
 }
 
 // ---- a key, as codes 4 and 5 begin
@@ -115,7 +115,7 @@ fn put_key(answer: &mut [u8], code: Code, number: u64, key: &Key) -> usize
         result
         answer.new }
 {
-    let n = put_head(answer, code, 0, number);
+    let n = put_head(answer, u8::from(code), 0, number);
     key::put_hex(answer, n, key);
     n + HEX
 }
@@ -186,7 +186,7 @@ pub fn put_summary(answer: &mut [u8], totals: Totals) -> usize
         result
         answer.new }
 {
-    put_head(answer, Code::Report, 0, totals.active);
+    put_head(answer, Code::Report as u8, 0, totals.active);
     octets::put_byte(answer, SummaryAt::WORST, totals.worst);
     octets::put_byte(answer, SummaryAt::READINESS, totals.readiness);
     octets::put64(answer, SummaryAt::SUCCESSES, totals.successes);

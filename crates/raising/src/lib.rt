@@ -55,7 +55,7 @@ fn update(
     let mut p = state::load(register, i);
     changes::updated_by(&mut p, call, news);
     history::revise(register, i, ends, &p);
-    answers::put_alarm(answer, Code::Updated, &p)
+    answers::put_alarm(answer, Code::Updated as u8, &p)
 }
 
 // Whether an active alarm has the id.
@@ -92,7 +92,7 @@ fn insert(
     let mut p = [0u8; Record::PAYLOAD];
     build::alarm_into(&mut p, key, call, r);
     history::store(register, ends, &p);
-    Ok(answers::put_alarm(answer, Code::Raised, &p))
+    Ok(answers::put_alarm(answer, Code::Raised as u8, &p))
 }
 
 // No active alarm has the key.

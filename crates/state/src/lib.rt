@@ -75,7 +75,8 @@ pub fn act(
     let mut p = load(register, i);
     changes::acted_on(&mut p, deed, time);
     history::revise(register, i, ends, &p);
-    answers::put_alarm(answer, code_of(model::action_of(deed)), &p)
+    let code = code_of(model::action_of(deed));
+    answers::put_alarm(answer, u8::from(code), &p)
 }
 
 fn not_authorized(answer: &mut [u8], action: Action) -> usize
@@ -91,7 +92,7 @@ fn not_authorized(answer: &mut [u8], action: Action) -> usize
         Action::Acknowledge => b"acknowledge not authorized",
         Action::Suppress => b"suppress not authorized",
     };
-    answers::put_text(answer, Code::Unauthorized, message)
+    answers::put_text(answer, Code::Unauthorized as u8, message)
 }
 
 // The alarm with the id, if it is active; the call says that it is authorised.
@@ -125,7 +126,7 @@ fn plain_on(
             time,
             answer,
         ),
-        None => answers::put_text(answer, Code::NotFound, id),
+        None => answers::put_text(answer, Code::NotFound as u8, id),
     }
 }
 
@@ -186,7 +187,7 @@ fn clear_found(
     let mut p = load(register, i);
     changes::cleared_by(&mut p, time);
     history::retire(register, i, previous, ends, &p);
-    answers::put_text(answer, Code::Cleared, record::id(&p))
+    answers::put_text(answer, Code::Cleared as u8, record::id(&p))
 }
 
 // A clear whose key was looked for, in whatever way.

@@ -9,7 +9,7 @@ use Rattle.answers.proofs.put_head.Goals as goal
 pub returns : goal.returns
 unfolding zeros
 returns c =
-    part (rw c.from.ensures at c.put_byte.ensures) refl (omega arith)
+    part c.put_byte.ensures refl (omega arith)
     then part c.put_zeros.ensures refl (omega arith)
     then part c.put32.ensures (length_digits 4 c.args.count) (omega arith)
     then part c.put64.ensures (length_digits 8 c.args.number) (omega arith)

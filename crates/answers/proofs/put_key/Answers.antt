@@ -13,4 +13,4 @@ put_hex-requires c =
 
 pub returns : goal.returns
 returns c =
-    c.put_head-n.ensures then part_to c.put_hex.ensures (length_hex c.args.key.now) (omega arith) (omega (arith, c.put_head-n.ensures.next, length_head (head (code_number c.args.code) 0 c.args.number)))
+    (rw c.from.ensures at c.put_head-n.ensures) then part_to c.put_hex.ensures (length_hex c.args.key.now) (omega arith) (omega (arith, c.put_head-n.ensures.next, length_head (head (code_number c.args.code) 0 c.args.number)))

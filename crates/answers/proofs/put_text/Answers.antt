@@ -5,14 +5,13 @@ use lib.ListN.{length}
 use Rattle.definition.specs.Answer.{head}
 use Rattle.definition.proofs.Laws.Steps.Answers.{length_head}
 use Rattle.strings.specs.WritingLaws.{put_from}
-use Rattle.answers.specs.Code.{code_number}
 use Rattle.answers.proofs.Parts.{◌then◌}
 use borrow.Author.Rules.{rules}
 use Rattle.answers.proofs.put_text.Goals as goal
 
 pub put_string-requires : goal.put_string-requires
 put_string-requires c =
-    (omega (arith, c.put_head-n.ensures.next, length_head (head (code_number c.args.code) 0 0), ap length c.new-writer.ensures.bytes), c.requires.1)
+    (omega (arith, c.put_head-n.ensures.next, length_head (head c.args.code 0 0), ap length c.new-writer.ensures.bytes), c.requires.1)
 
 pub returns : goal.returns
 returns c =

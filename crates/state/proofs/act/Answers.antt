@@ -19,4 +19,4 @@ revise-requires c =
 pub returns : goal.returns
 returns c =
     acts _ _ _ _ (deed_of c.args.deed) _ c.requires.0.whole c.requires.1 c.requires.2 (search rules) c.load-p.ensures.0 c.acted_on.ensures
-    _ _ _ _ _ _ c.revise.ensures (c.code_of.ensures ∙ ap action_code c.action_of.ensures) c.put_alarm.ensures
+    _ _ _ _ _ _ c.revise.ensures (c.from.ensures ∙ c.code_of-code.ensures ∙ ap action_code c.action_of.ensures) c.put_alarm.ensures
