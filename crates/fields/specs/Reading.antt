@@ -37,10 +37,11 @@ abbrev pub left : Reading → Bytes
 left p = drop p.at p.call
 
 module _ {A B : Type 0} where
-  -- on from where the reading stands: an answer, and the reading goes on behind it in the same call; or the refusal that r finds
+  -- on from where the reading stands: an answer, and the reading goes on behind it in the same call; or the refusal that r finds, and the
+  -- reading is still of the same call
   abbrev pub Reads : Reading → Reading → Reader B → (Bytes → A → B) → (Bytes → A → Type 0) → Result A Refusal → Type 0
   Reads p q r value within (Ok answer) = Gives p.call p.at r value within answer q.at × (q.call ≡ p.call)
-  Reads p q r value within (Err e) = Refuses p.call p.at r e
+  Reads p q r value within (Err e) = Refuses p.call p.at r e × (q.call ≡ p.call)
 
 -- ---- what a number and a flag mean; they have no place
 

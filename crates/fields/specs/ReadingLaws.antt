@@ -54,6 +54,10 @@ module _ {A B : Type 0} {c d : Bytes} {i : ℕ} {r : Reader B} where
 pub along_refused : {B : Type 0} {c d : Bytes} {i : ℕ} {r : Reader B} {e : Refusal} → d ≡ c → Refuses d i r e → Refuses c i r e
 along_refused h a = record { out = rw (← h) a.out }
 
+-- a refusal, after which the reading is still of that call
+pub along_stopped : {B : Type 0} {c d t : Bytes} {i : ℕ} {r : Reader B} {e : Refusal} → d ≡ c → Refuses d i r e × (t ≡ d) → Refuses c i r e × (t ≡ c)
+along_stopped h a = (along_refused h a.0, a.1 ∙ h)
+
 -- ---- what `?` hands on
 
 pub handed : {A : Type 0} (res : Result A Refusal) {e : Refusal} → IsErr res × IsErrAnd res (λ (x : Refusal). x ≡ e) → res ≡ Err e

@@ -10,7 +10,7 @@
 // of a row of fields are proved, of which most need only `row_is`; specs/MovedLaws.antt has those that carry an answer over.
 #![tactic(auto)]
 
-ghost use Rattle.std.specs.Prelude.{◌≡◌, ◌+◌, ◌^◌, ◌≤◌, ◌<◌, length, IsTrue, ◌↔◌};
+ghost use Rattle.std.specs.Prelude.{◌≡◌, ◌+◌, ◌^◌, ◌≤◌, ◌<◌, length, drop, min, IsTrue, OnErr, ◌↔◌, ⊤};
 ghost use Rattle.definition.specs.Limits.{text_limit};
 ghost use Rattle.definition.specs.Reader.{number, choice, text, optional, cause_text};
 ghost use Rattle.definition.specs.Parse.{raise_text};
@@ -19,6 +19,7 @@ ghost use Rattle.fields.specs.Reading.{Reads, left, itself, of_width, between, f
 ghost use Rattle.fields.specs.StringKind.{string_by};
 
 use model::{CauseSpan, Refusal, Span};
+use std::alloc::AllocError;
 use std::marker::Model;
 
 mod moved;
@@ -53,14 +54,38 @@ impl<'a> Model for Reader<'a> {
     ghost invariant = { λ r. r.at ≤ length r.call.now };
 }
 
+// A copy reads on from the same place of the same call.
+impl<'a> Clone for Reader<'a> {
+    ghost is_clone = { λ s r. r ≡ s };
+
+    ghost is_infallible = { λ _. ⊤ };
+
+    fn clone(&self) -> Result<Reader<'a>, AllocError> {
+        Ok(Reader {
+            call: self.call,
+            at: self.at,
+        })
+    }
+}
+
 impl<'a> Reader<'a> {
-    // Reads a call from a place on.
+    // Reads a call from a place on. Past the end nothing is left.
     pub fn new(call: &'a [u8], at: usize) -> Reader<'a>
-        requires { at ≤ length call.now }
         ensures call { result.call ≡ call.now }
-        ensures place { result.at ≡ at }
+        ensures place { result.at ≡ min at (length call.now) }
+        ensures left { left result ≡ drop at call.now }
     {
-        Reader { call, at }
+        Reader {
+            call,
+            at: at.min(call.len()),
+        }
+    }
+
+    // How many bytes of the call are read: the place where the next field starts.
+    pub fn place(&self) -> usize
+        ensures { result ≡ self.now.at }
+    {
+        self.at
     }
 
     // Whether all bytes of the call are read.
@@ -94,7 +119,8 @@ impl<'a> Reader<'a> {
     // A number of n bytes.
     pub fn number(&mut self, n: usize) -> Result<u64, Refusal>
         requires { n ≤ 8 }
-        ensures { Reads self.old self.new (number n) itself (of_width n) result }
+        ensures reads { Reads self.old self.new (number n) itself (of_width n) result }
+        ensures refused { OnErr result (self.new ≡ self.old) }
     {
         let read = read_number(self.left(), n)?;
         Ok(self.pass(read))
@@ -102,7 +128,8 @@ impl<'a> Reader<'a> {
 
     // A byte from lo to hi.
     pub fn choice(&mut self, lo: u8, hi: u8) -> Result<u8, Refusal>
-        ensures { Reads self.old self.new (choice lo hi) itself (between lo hi) result }
+        ensures reads { Reads self.old self.new (choice lo hi) itself (between lo hi) result }
+        ensures refused { OnErr result (self.new ≡ self.old) }
     {
         let read = read_choice(self.left(), lo, hi)?;
         Ok(self.pass(read))
@@ -110,7 +137,8 @@ impl<'a> Reader<'a> {
 
     // A flag: byte 0 or 1.
     pub fn flag(&mut self) -> Result<bool, Refusal>
-        ensures { Reads self.old self.new (choice 0 1) flag anywhere result }
+        ensures reads { Reads self.old self.new (choice 0 1) flag anywhere result }
+        ensures refused { OnErr result (self.new ≡ self.old) }
     {
         let byte = self.choice(0, 1)?;
         Ok(byte == 1)
@@ -118,7 +146,8 @@ impl<'a> Reader<'a> {
 
     // A string in UTF-8.
     pub fn text(&mut self, limit: usize) -> Result<Span, Refusal>
-        ensures { Reads self.old self.new (text limit) part_of (λ s. within s limit) result }
+        ensures reads { Reads self.old self.new (text limit) part_of (λ s. within s limit) result }
+        ensures refused { OnErr result (self.new ≡ self.old) }
     {
         let read = read_text(self.left(), limit)?;
         Ok(self.pass(read))
@@ -126,7 +155,8 @@ impl<'a> Reader<'a> {
 
     // A raise's text: a string in UTF-8 of at most 120 code points.
     pub fn raise_text(&mut self) -> Result<Span, Refusal>
-        ensures { Reads self.old self.new raise_text part_of (λ s. within s text_limit) result }
+        ensures reads { Reads self.old self.new raise_text part_of (λ s. within s text_limit) result }
+        ensures refused { OnErr result (self.new ≡ self.old) }
     {
         let read = read_raise_text(self.left())?;
         Ok(self.pass(read))
@@ -134,7 +164,8 @@ impl<'a> Reader<'a> {
 
     // An optional string: byte 0, or byte 1 and the string.
     pub fn option(&mut self, limit: usize, kind: StringKind) -> Result<Option<Span>, Refusal>
-        ensures { Reads self.old self.new (optional (string_by kind limit)) opt_part (λ s. opt_within s limit) result }
+        ensures reads { Reads self.old self.new (optional (string_by kind limit)) opt_part (λ s. opt_within s limit) result }
+        ensures refused { OnErr result (self.new ≡ self.old) }
     {
         let read = read_option(self.left(), limit, kind)?;
         Ok(self.pass(read))
@@ -142,7 +173,8 @@ impl<'a> Reader<'a> {
 
     // A cause: a string in UTF-8, and the cause that it is.
     pub fn cause(&mut self) -> Result<CauseSpan, Refusal>
-        ensures { Reads self.old self.new cause_text cause_part cause_within result }
+        ensures reads { Reads self.old self.new cause_text cause_part cause_within result }
+        ensures refused { OnErr result (self.new ≡ self.old) }
     {
         let read = read_cause(self.left())?;
         Ok(self.pass(read))
