@@ -105,7 +105,8 @@ pub fn read_raise_text(left: &[u8]) -> Result<Read<Span>, Refusal>
     let Some(code_points) = utf8::check(model::part(left, string.value)) else {
         return Err(Refusal::Utf8);
     };
-    if code_points > Record::TEXT_CODE_POINTS {
+    let limit = Record::TEXT_CODE_POINTS;
+    if code_points > limit {
         return Err(Refusal::CodePoints);
     }
     Ok(string)

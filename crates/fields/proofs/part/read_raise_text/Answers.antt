@@ -26,16 +26,16 @@ within_limit k h = search rules
 beyond_limit : (k : ℕ) → code_point_limit < k → leb k code_point_limit ≡ false
 beyond_limit k h = search rules
 
-pub returns-then-code_points-gt-TEXT_CODE_POINTS : goal.returns-then-code_points-gt-TEXT_CODE_POINTS
+pub returns-then-code_points-limit : goal.returns-then-code_points-limit
 unfolding utf8 raise_text
-returns-then-code_points-gt-TEXT_CODE_POINTS c =
+returns-then-code_points-limit c =
     let form = c.in-Some.ensures ∙ ap code_points c.part.ensures in
     let read = obeying Text c.in_ok-string.ensures.0 (ap is_run (sym form)) in
-    passes _ read (fails _ (ap (at_most code_point_limit) (sym form) ∙ beyond_limit _ c.if-code_points-gt-TEXT_CODE_POINTS.true))
+    passes _ read (fails _ (ap (at_most code_point_limit) (sym form) ∙ beyond_limit _ c.if-code_points-limit.true))
 
 pub returns : goal.returns
 unfolding utf8 raise_text
 returns c =
     let form = c.in-Some.ensures ∙ ap code_points c.part.ensures in
     let read = obeying Text c.in_ok-string.ensures.0 (ap is_run (sym form)) in
-    (step _ read (tested _ (ap (at_most code_point_limit) (sym form) ∙ within_limit _ c.if-code_points-gt-TEXT_CODE_POINTS.false) (done c.in_ok-string.ensures.0.lies)), c.in_ok-string.ensures.1)
+    (step _ read (tested _ (ap (at_most code_point_limit) (sym form) ∙ within_limit _ c.if-code_points-limit.false) (done c.in_ok-string.ensures.0.lies)), c.in_ok-string.ensures.1)
