@@ -202,6 +202,19 @@ def example(compiler, name):
     return go
 
 
+def asked(root):
+    """The library asks its host for just the functions that the header says it uses."""
+    if not (root / LIBRARY).exists():
+        raise Skip(f"{LIBRARY} is not built; `make lib` builds it")
+    if not shutil.which("nm"):
+        raise Skip("nm is not on this machine")
+    said = set(re.findall(r"\bmem\w+", re.search(r"It uses (.*?) of the C\b", (root / HEADER).read_text(encoding="utf-8")).group(1)))
+    rows = subprocess.run(["nm", "-u", root / LIBRARY], stdout=subprocess.PIPE, text=True, check=True).stdout.splitlines()
+    names = {row.split()[-1] for row in rows if row.strip() and not row.endswith(":")}
+    yield from (f"the library asks for {name}, which the header does not name" for name in sorted(names - said))
+    yield from (f"the header names {name}, which the library does not ask for" for name in sorted(said - names))
+
+
 def raises(root):
     """Raises are read from their four bytes, in C and in C++; a program that does not read them compiles too."""
     for compiler in (C, CPP):
@@ -227,6 +240,7 @@ CHECKS = {
     "one limit of code points": code_points,
     "a panel's bytes are the layout's": panel,
     "numbers are those of docs/NUMBERS.md": numbers,
+    "the library asks for what the header says": asked,
     "raises are read": raises,
     "ends are read": ends,
     "a panel's active length is read": active,
