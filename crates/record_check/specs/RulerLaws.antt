@@ -60,6 +60,11 @@ ruler_made =
     ap (λ (r : Bytes). replicate 512 128 ++ drop 512 r) (split 512 512 255 {n = 1024} refl)
     ∙ ap (◌++◌ (replicate 512 128)) (drop_at (replicate 512 255) (replicate 512 255) 512 (length-replicate {A = ℕ} 512 255))
 
+-- two rows of the highest bit, and two of ones
+pub ruler_rows : take 1024 (highs 256 ++ (highs 256 ++ (ones 256 ++ (ones 256 ++ [])))) ≡ ruler_bytes
+unfolding ruler_bytes highs ones
+ruler_rows = refl
+
 pub length_ruler : length ruler_bytes ≡ 1024
 unfolding ruler_bytes highs ones
 length_ruler = length-append {A = ℕ} (replicate 512 128) (replicate 512 255) ∙ ap₂ ◌+◌ (length-replicate {A = ℕ} 512 128) (length-replicate {A = ℕ} 512 255)

@@ -18,6 +18,13 @@ const RULER: usize = 2 * Record::DETAILS;
 // A byte's highest bit.
 const HIGH: u8 = 128;
 
+const HIGHS: [u8; Record::TEXT] = [HIGH; Record::TEXT];
+
+const ONES: [u8; Record::TEXT] = [255; Record::TEXT];
+
+// The ruler, in rows of half the widest room. A constant is read where it lies; an array filled at each call stood on the stack three times.
+const ROWS: [[u8; Record::TEXT]; 4] = [HIGHS, HIGHS, ONES, ONES];
+
 // What is laid along rooms: a caller makes one for a whole register.
 #[derive(Drop)]
 pub struct Ruler {
@@ -29,9 +36,9 @@ impl Ruler {
     pub fn new() -> Ruler
         ensures { result.bytes ≡ ruler_bytes }
     {
-        let mut bytes = [255; RULER];
-        bytes[..Record::DETAILS].fill(HIGH);
-        Ruler { bytes }
+        Ruler {
+            bytes: *ROWS.as_flattened().first_chunk().unwrap(),
+        }
     }
 
     // Whether the first m bytes of a room are ASCII, and the others zero.

@@ -1,10 +1,10 @@
--- Ones, of which the first half was filled with the highest bit.
-use Rattle.std.proofs.Common.{◌∙◌, ap, ◌++◌, drop, replicate}
-use Rattle.octets.specs.Bytes.{Bytes}
-use Rattle.record_check.specs.RulerLaws.{ruler_made}
+-- Two rows of the highest bit, and two of ones, as one slice.
+use Rattle.std.proofs.Common.{◌∙◌, ap, take}
+use Rattle.record_check.specs.RulerLaws.{ruler_rows}
 use Rattle.record_check.proofs.ruler.Ruler.new.Goals as goal
 
 pub invariant_of-result : goal.invariant_of-result
-unfolding Rattle.record_check.specs.Ruler.highs
+unfolding Rattle.record_check.specs.Ruler.highs Rattle.record_check.specs.Ruler.ones
 invariant_of-result c =
-    record { is_ruler = ap (λ (front : Bytes). front ++ drop 512 (replicate 1024 255)) (c.fill.ensures.after (λ y same. same)) ∙ ruler_made }
+    let first = rw c.unwrap.ensures at c.first_chunk.ensures.cases in
+    record { is_ruler = first.same ∙ ap (take 1024) c.as_flattened.ensures.value ∙ ruler_rows }
