@@ -92,11 +92,13 @@ fn updated_state(state: u8) -> u8
     state
 }
 
+const MOST_RAISES: u32 = 4294967295;
+
 // Held at the most that the record has room for.
 fn one_more_raise(raises: u32) -> u32
     ensures { result ≡ one_more_raise raises }
 {
-    raises.saturating_add(1)
+    raises.checked_add(1).unwrap_or(MOST_RAISES)
 }
 
 fn set_details(p: &mut Payload, call: &[u8], details: Option<Span>)
