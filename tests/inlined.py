@@ -1,10 +1,12 @@
 #!/usr/bin/env python3
 """The compiled library: the quick test of a string is part of the check of a record, and what decides where it fails is called. And the loop that
-decides on UTF-8 stands by itself, so that code points are counted only where their number is asked for.
+decides on UTF-8 stands by itself, so that code points are counted only where their number is asked for. And what the proof rules out is not tested.
 
 LLVM inlines by size, and by hints at what is called (`any_string_at`, `is_run`); docs/DECISIONS.md, 4.16 and 2.7, says what hangs on it.
 """
 import re
+import shutil
+import subprocess
 import sys
 
 from checklist import Skip, run
@@ -41,7 +43,19 @@ def uncounted(root):
     yield from (f"{name} is called, and counts for callers that ask for yes or no" for name in sorted(found & COUNTING))
 
 
-CHECKS = {"the quick test of strings is inlined": quick, "nothing is counted where yes or no is asked": uncounted}
+def untested(root):
+    """No function has a trap: a test of what the proof rules out, as of a part's length, would end in one (docs/TRUST.md)."""
+    functions(root)
+    if not shutil.which("objdump"):
+        raise Skip("objdump is not on this machine")
+    rows = subprocess.run(["objdump", "-d", "--no-show-raw-insn", root / LIBRARY], stdout=subprocess.PIPE, text=True, check=True).stdout
+    for part in re.split(r"^[0-9a-f]+ (?=<)", rows, flags=re.M)[1:]:
+        if re.search(r"\tud2\b", part):
+            yield f"{part.split('>:')[0][1:]} has a trap"
+
+
+CHECKS = {"the quick test of strings is inlined": quick, "nothing is counted where yes or no is asked": uncounted,
+          "what the proof rules out is not tested": untested}
 
 if __name__ == "__main__":
     sys.exit(run("inlined", CHECKS))
