@@ -2,7 +2,7 @@
 use Rattle.octets.specs.Bytes.{Bytes}
 use Rattle.definition.specs.Limits.{short_limit, region_limit, text_limit}
 use Rattle.definition.specs.Value.{PlainValue, ScopeValue, ActorValue, RequestValue, VerdictValue, PolicyValue}
-use Rattle.model.specs.Meaning.{part, opt_part, flag_value, within, opt_within}
+use Rattle.model.specs.Meaning.{part, opt_part, within, opt_within}
 use Rattle.action_fields.specs.declared.Plain.{Plain}
 use Rattle.action_fields.specs.declared.Scope.{Scope}
 use Rattle.action_fields.specs.declared.Scope.TheVariants as S
@@ -14,7 +14,7 @@ use Rattle.action_fields.specs.declared.Policy.{Policy}
 -- ---- values
 
 abbrev pub plain_value : Bytes → Plain → PlainValue
-plain_value call p = record { time = p.time; id = part call p.id; authorised = flag_value p.authorised }
+plain_value call p = record { time = p.time; id = part call p.id; authorised = p.authorised }
 
 -- 0 alarm with id, 1 tenant with string, 2 global
 abbrev pub scope_value : Bytes → Scope → ScopeValue
@@ -29,7 +29,7 @@ abbrev pub request_value : Bytes → Request → RequestValue
 request_value call r = record { reason = part call r.reason; scope = scope_value call r.scope; correlation = opt_part call r.correlation }
 
 abbrev pub verdict_value : Bytes → Verdict → VerdictValue
-verdict_value call v = record { critical = flag_value v.critical_allowed; authorised = flag_value v.authorised; denial = part call v.denial }
+verdict_value call v = record { critical = v.critical_allowed; authorised = v.authorised; denial = part call v.denial }
 
 abbrev pub policy_value : Bytes → Policy → PolicyValue
 policy_value call p =

@@ -16,12 +16,12 @@ ghost use Rattle.action_fields.specs.Meaning.{plain_within, scope_within, ActorW
 use fields::{Reader, StringKind};
 use model::{Record, Refusal, Span};
 
-// An acknowledgement or a suppression without a policy.
+// An acknowledgement or a suppression without a policy. The flag is a byte of the call, 0 or 1 where it was read of one.
 #[derive(Clone, Copy)]
 pub struct Plain {
     pub time: u64,
     pub id: Span,
-    pub authorised: bool,
+    pub authorised: u8,
 }
 
 // What is asked for: one alarm by its id, the alarms of a tenant, or all.
@@ -49,11 +49,11 @@ pub struct Request {
     pub correlation: Option<Span>,
 }
 
-// What the authoriser answered.
+// What the authoriser answered. The flags are bytes as in `Plain`.
 #[derive(Clone, Copy)]
 pub struct Verdict {
-    pub critical_allowed: bool,
-    pub authorised: bool,
+    pub critical_allowed: u8,
+    pub authorised: u8,
     pub denial: Span,
 }
 
@@ -73,7 +73,7 @@ pub fn read_plain(reader: &mut Reader) -> Result<Plain, Refusal>
 {
     let time = reader.number(8)?;
     let id = reader.text(Record::SHORT)?;
-    let authorised = reader.flag()?;
+    let authorised = u8::from(reader.flag()?);
     Ok(Plain {
         time,
         id,
@@ -131,8 +131,8 @@ fn read_request(reader: &mut Reader) -> Result<Request, Refusal>
 fn read_verdict(reader: &mut Reader) -> Result<Verdict, Refusal>
     ensures { Reads reader.old reader.new verdict verdict_value verdict_within result }
 {
-    let critical_allowed = reader.flag()?;
-    let authorised = reader.flag()?;
+    let critical_allowed = u8::from(reader.flag()?);
+    let authorised = u8::from(reader.flag()?);
     let denial = reader.text(Record::REGION)?;
     Ok(Verdict {
         critical_allowed,

@@ -4,4 +4,3 @@ pub mod CaseLaws
 pub mod Opening
 pub mod OpeningLaws
 pub mod PartLaws
-pub mod FlagLaws

@@ -1,4 +1,4 @@
-// A call that was read, on a sound register: room for its answer, and then its operation.
+// What was read of a call, on a sound register: room for its answer, and then its operation.
 //
 // `perform` is the definition's `perform` (crates/definition/specs/Perform.antt). The answer's room is one test before the dispatch: operations 1 to 7, 11, 13 and 14 ask
 // for a head and a record, whatever they will answer (30); the others know their answer's size when they have made it, and test it themselves. The
@@ -7,14 +7,14 @@
 // Next: specs/RoomLaws.antt, and the crate of the operation that you look for.
 #![tactic(auto)]
 
-ghost use Rattle.std.specs.Prelude.{◌≡◌, length};
+ghost use Rattle.std.specs.Prelude.{◌≡◌, length, Ok};
 ghost use Rattle.octets.specs.Bytes.{Bytes};
 ghost use Rattle.definition.specs.Value.{op_of};
 ghost use Rattle.definition.specs.Clauses.Does.{Answers};
 ghost use Rattle.definition.specs.Steps as S;
 ghost use Rattle.definition.specs.Perform.{asks_record, perform as performed};
 ghost use Rattle.raise_fields.specs.Meaning.{raise_value, clear_value};
-ghost use Rattle.call.specs.Meaning.{meaning};
+ghost use Rattle.call.specs.Meaning.{meaning, outcome_value};
 ghost use Rattle.raising.specs.Meaning.{Ready};
 ghost use Rattle.state.specs.Meaning.{Clearing};
 ghost use Rattle.reply.specs.Meaning.{Replies};
@@ -97,7 +97,7 @@ fn dispatch(
     parsed: Parsed,
     answer: &mut [u8],
 ) -> Reply
-    requires called { Called register.old ends call.now parsed }
+    requires called { Called register.old ends call.now (Ok parsed) }
     requires has_room { HasRoom (meaning call.now parsed) (length answer.old) }
     ensures { Replies
         result
@@ -126,23 +126,24 @@ fn dispatch(
     }
 }
 
-// A call that was read, on a sound register and its chains' ends.
+// What was read of a call, on a sound register and its chains' ends: its operation is done; what was refused as it was read stays refused.
 pub fn perform(
     register: &mut [u8],
     ends: Ends,
     call: &[u8],
-    parsed: Parsed,
+    outcome: Result<Parsed, Refusal>,
     answer: &mut [u8],
 ) -> Reply
-    requires { Called register.old ends call.now parsed }
+    requires { Called register.old ends call.now outcome }
     ensures { Replies
         result
-        (performed (meaning call.now parsed) (length answer.old))
+        (performed (outcome_value call.now outcome) (length answer.old))
         register.old
         register.new
         answer.old
         answer.new }
 {
+    let parsed = outcome?;
     let lacks = answer.len() < ROOM;
     if asks_record(parsed) & lacks {
         return Err(Refusal::AnswerLength);

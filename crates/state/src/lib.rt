@@ -149,7 +149,7 @@ pub fn plain(
         answer.new
         result }
 {
-    if !p.authorised {
+    if p.authorised == 0 {
         return not_authorized(answer, action);
     }
     plain_on(

@@ -31,8 +31,7 @@ fn step(register: &mut [u8], call: &[u8], answer: &mut [u8]) -> Reply
     let Some(ends) = register_check::check(register) else {
         return Err(Refusal::Unsound);
     };
-    let parsed = call::parse(call)?;
-    operations::perform(register, ends, call, parsed, answer)
+    operations::perform(register, ends, call, call::parse(call), answer)
 }
 
 // Opens a register with these limits. Returns 0, 20 or 21; the length is 0.

@@ -20,8 +20,8 @@ use Rattle.operations.specs.RoomLaws.{plain_asks, policy_asks, plain_steps, poli
 use Rattle.operations.proofs.dispatch.Goals as goal
 
 -- what is asked, as the arm has the call
-called : (b : Bytes) (ends : Ends) (call : Bytes) {p q : Parsed} → p ≡ q → Called b ends call p → Called b ends call q
-called b ends call e k = subst (λ (x : Parsed). Called b ends call x) e k
+called : (b : Bytes) (ends : Ends) (call : Bytes) {p q : Parsed} → p ≡ q → Called b ends call (Ok p) → Called b ends call (Ok q)
+called b ends call e k = subst (λ (x : Parsed). Called b ends call (Ok x)) e k
 
 room : (call : Bytes) (n : ℕ) {p q : Parsed} → p ≡ q → HasRoom (meaning call p) n → asks_record (op_of (meaning call q)) ≡ true → 1552 ≤ n
 room call n e h a = h (rw e a)
