@@ -7,7 +7,7 @@
 // audit event relies on these.
 #![tactic(auto)]
 
-ghost use Rattle.std.specs.Prelude.{◌≡◌, IfOk};
+ghost use Rattle.std.specs.Prelude.{◌≡◌, IfOk, eqb};
 ghost use Rattle.definition.specs.Parse.{plain_fields, scope, actor, request, verdict, policy_from, policy_fields};
 ghost use Rattle.fields.specs.Reading.{Reads};
 ghost use Rattle.action_fields.specs.Meaning.{plain_value, scope_value, actor_value, request_value, verdict_value, policy_value};
@@ -16,7 +16,14 @@ ghost use Rattle.action_fields.specs.Meaning.{plain_within, scope_within, ActorW
 use fields::{Reader, StringKind};
 use model::{Record, Refusal, Span};
 
-// An acknowledgement or a suppression without a policy. The flag is a byte of the call, 0 or 1 where it was read of one.
+// Whether a flag says no. A call's flag is 0 or 1; of any byte, 0 alone says no.
+pub fn says_no(flag: u8) -> bool
+    ensures { result ≡ eqb flag 0 }
+{
+    flag == 0
+}
+
+// An acknowledgement or a suppression without a policy.
 #[derive(Clone, Copy)]
 pub struct Plain {
     pub time: u64,
@@ -49,7 +56,7 @@ pub struct Request {
     pub correlation: Option<Span>,
 }
 
-// What the authoriser answered. The flags are bytes as in `Plain`.
+// What the authoriser answered.
 #[derive(Clone, Copy)]
 pub struct Verdict {
     pub critical_allowed: u8,

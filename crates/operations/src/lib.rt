@@ -126,7 +126,32 @@ fn dispatch(
     }
 }
 
-// What was read of a call, on a sound register and its chains' ends: its operation is done; what was refused as it was read stays refused.
+// A call that was read: 30 where there is no room for a record that it asks for, else its operation.
+fn perform_call(
+    register: &mut [u8],
+    ends: Ends,
+    call: &[u8],
+    parsed: Parsed,
+    answer: &mut [u8],
+) -> Reply
+    requires { Called register.old ends call.now (Ok parsed) }
+    ensures { Replies
+        result
+        (performed (meaning call.now parsed) (length answer.old))
+        register.old
+        register.new
+        answer.old
+        answer.new }
+{
+    let lacks = answer.len() < ROOM;
+    if asks_record(parsed) & lacks {
+        return Err(Refusal::AnswerLength);
+    }
+    dispatch(register, ends, call, parsed, answer)
+}
+
+// What was read of a call, on a sound register and its chains' ends. What was refused as it was read stays refused.
+#[tactic(auto, using(crate::specs::RoomLaws::stays_refused))]
 pub fn perform(
     register: &mut [u8],
     ends: Ends,
@@ -144,9 +169,5 @@ pub fn perform(
         answer.new }
 {
     let parsed = outcome?;
-    let lacks = answer.len() < ROOM;
-    if asks_record(parsed) & lacks {
-        return Err(Refusal::AnswerLength);
-    }
-    dispatch(register, ends, call, parsed, answer)
+    perform_call(register, ends, call, parsed, answer)
 }

@@ -149,7 +149,7 @@ pub fn plain(
         answer.new
         result }
 {
-    if p.authorised == 0 {
+    if action_fields::says_no(p.authorised) {
         return not_authorized(answer, action);
     }
     plain_on(
