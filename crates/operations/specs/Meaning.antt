@@ -1,4 +1,4 @@
--- What a call that was read asks, and what is left of `perform` once the answer's room was tested.
+-- What `perform` asks of what was read of a call, and what is left of `perform` once the answer's room was tested.
 use Rattle.std.specs.Prelude.{ℕ, ◌≤◌, ◌≡◌, true, cond, Result}
 use Rattle.octets.specs.Bytes.{Bytes}
 use Rattle.definition.specs.Value.{CallValue, op_of}

@@ -1,5 +1,5 @@
 -- 30, "shorter than 1,552 (ops 1 to 7, 11)", and M-105's 13 and 14, as one test before the step; and the dispatch's arms in the words of the definition.
-use Rattle.std.specs.Prelude.{ℕ, ◌≤◌, ◌<◌, ◌≡◌, Bool, cond, ◌&&◌, ltb}
+use Rattle.std.specs.Prelude.{ℕ, ◌≤◌, ◌<◌, ◌≡◌, Bool, cond, ◌&&◌, ltb, Result}
 use Rattle.std.proofs.Math.Path.{refl}
 use Rattle.std.proofs.Common.{ap, arith}
 use Rattle.std.proofs.Math.Bool.{true, false}
@@ -12,8 +12,7 @@ use Rattle.definition.specs.Steps.{plain, policy}
 use Rattle.definition.specs.Perform.{step_for, in_record, in_length, asks_record, perform}
 use Rattle.definition.specs.Sound.{station}
 use Rattle.definition.specs.Clauses.Does.{Refuses}
-use Rattle.reply.specs.Meaning.{Reply}
-use Rattle.reply.specs.Meaning.{Replies}
+use Rattle.reply.specs.Meaning.{RepliesBy}
 use Rattle.reply.specs.ReplyLaws.{replies_at}
 use Rattle.operations.specs.Meaning.{with_room}
 
@@ -37,7 +36,7 @@ module _ (c : CallValue) (n : ℕ) where
   same true h = rw (le-ltb n 1552 (h refl))
   same false h = refl
 
-  pub has_room : (y : Reply) (b b' a a' : Bytes) → (asks_record (op_of c) ≡ true → 1552 ≤ n) → Replies y (with_room c n) b b' a a' → Replies y (perform c n) b b' a a'
+  pub has_room : (y : Result ℕ ℕ) (b b' a a' : Bytes) → (asks_record (op_of c) ≡ true → 1552 ≤ n) → RepliesBy y (with_room c n) b b' a a' → RepliesBy y (perform c n) b b' a a'
   unfolding perform
   has_room y b b' a a' h w = replies_at y (with_room c n) (perform c n) b b' a a' (ap (λ (m : Step Answer). m (station b)) (same (asks_record (op_of c)) h)) w
 
@@ -54,11 +53,11 @@ policy_asks (untimed suppressing) p = refl
 policy_asks (until end) p = refl
 
 -- so they are their steps
-module _ (n : ℕ) (y : Reply) (b b' a a' : Bytes) where
-  pub plain_steps : (x : Action) (p : PlainValue) → Replies y (plain x p) b b' a a' → Replies y (with_room (CallValue.plain x p) n) b b' a a'
+module _ (n : ℕ) (y : Result ℕ ℕ) (b b' a a' : Bytes) where
+  pub plain_steps : (x : Action) (p : PlainValue) → RepliesBy y (plain x p) b b' a a' → RepliesBy y (with_room (CallValue.plain x p) n) b b' a a'
   plain_steps x p w = rw (plain_asks x p) w
 
-  pub policy_steps : (d : Deed) (p : PolicyValue) → Replies y (policy d p) b b' a a' → Replies y (with_room (CallValue.policy d p) n) b b' a a'
+  pub policy_steps : (d : Deed) (p : PolicyValue) → RepliesBy y (policy d p) b b' a a' → RepliesBy y (with_room (CallValue.policy d p) n) b b' a a'
   policy_steps d p w = rw (policy_asks d p) w
 
 -- what the parser refused stays refused

@@ -1,5 +1,5 @@
 -- A raise, from the moves of the code.
-use Rattle.std.specs.Prelude.{ℕ, ◌≤◌, ◌<◌, ◌≡◌, ◌++◌, true, false, T, leb, length}
+use Rattle.std.specs.Prelude.{ℕ, ◌≤◌, ◌<◌, ◌≡◌, ◌++◌, true, false, T, leb, length, Result}
 use Rattle.std.proofs.Math.Path.{refl}
 use Rattle.std.proofs.Common.{sym, ap, ◌∙◌, subst, le-leb}
 use Rattle.std.proofs.Math.Option.{Option, none, some}
@@ -26,8 +26,7 @@ use Rattle.history.specs.DoesLaws.{does_then, does_look, does_yes, does_no}
 use Rattle.history.specs.AlarmRecordLaws.{alarm_payload, payload_as, changed_payload}
 use Rattle.answers.specs.AnswerLaws.{alarm_as, answers_put}
 use Rattle.changes.specs.Meaning.{updated_with, news_in, updated_with_lem}
-use Rattle.reply.specs.Meaning.{Reply}
-use Rattle.reply.specs.Meaning.{Replies}
+use Rattle.reply.specs.Meaning.{RepliesBy}
 use Rattle.reply.specs.ReplyLaws.{replies_at}
 use Rattle.raising.specs.Meaning.{updates_at, raises_new}
 
@@ -81,7 +80,7 @@ module _ (c : RaiseValue) (k b : Bytes) (h : T (sound b)) where
       (does_then _ (does_look b _ h) (does_yes (leb (station b).limit_a (length (station b).active)) (limit_exceeded k) (store_new new) (le-leb _ _ full) (does_look b _ h)))
       (put_as (ap (λ (x : ℕ). answer_bytes (ActiveLimitExceeded k x)) e) z)
 
-  pub has_room : (y : Reply) (b' a a' : Bytes) → length (station b).active < (station b).limit_a → Replies y (store_new new) b b' a a' → Replies y (raises_new c k) b b' a a'
+  pub has_room : (y : Result ℕ ℕ) (b' a a' : Bytes) → length (station b).active < (station b).limit_a → RepliesBy y (store_new new) b b' a a' → RepliesBy y (raises_new c k) b b' a a'
   unfolding raise_at ◌>>=◌
   has_room y b' a a' room r = replies_at y (store_new new) (raises_new c k) b b' a a' (rw (lt-leb (station b).limit_a (length (station b).active) room)) r
 
@@ -95,5 +94,5 @@ module _ (c : RaiseValue) (k b b' a a' : Bytes) where
   unfolding raise_at
   raise_at_found i n f w = rw f w
 
-  pub raise_at_none : (y : Reply) → found ≡ none → Replies y (raises_new c k) b b' a a' → Replies y (raise_at c k found) b b' a a'
+  pub raise_at_none : (y : Result ℕ ℕ) → found ≡ none → RepliesBy y (raises_new c k) b b' a a' → RepliesBy y (raise_at c k found) b b' a a'
   raise_at_none y f w = rw f w

@@ -11,16 +11,20 @@ use Rattle.model.specs.Refusal.{refusal_number}
 abbrev pub Reply : Type 0
 Reply = Result ℕ Refusal
 
--- a reply by its number, whatever that is: the step m, on a register that was b and is b' and an answer slice that was a and is a', is done and
+-- a reply by a number, whatever that is: the step m, on a register that was b and is b' and an answer slice that was a and is a', is done and
 -- answered, or refused with that number and nothing changes
 abbrev pub RepliesBy : Result ℕ ℕ → Step Answer → Bytes → Bytes → Bytes → Bytes → Type 0
 RepliesBy (Ok n) m b b' a a' = Answers m b b' a a' n
 RepliesBy (Err k) m b b' a a' = Refuses m b b' a a' k
 
+-- a reply by the number of its refusal
+abbrev pub numbered : Reply → Result ℕ ℕ
+numbered (Ok n) = Ok n
+numbered (Err e) = Err (refusal_number e)
+
 -- the same of a reply by its refusal
 abbrev pub Replies : Reply → Step Answer → Bytes → Bytes → Bytes → Bytes → Type 0
-Replies (Ok n) m b b' a a' = Answers m b b' a a' n
-Replies (Err e) m b b' a a' = Refuses m b b' a a' (refusal_number e)
+Replies y = RepliesBy (numbered y)
 
 -- "Every other call returns 0 and the answer's length"; "a refusal returns its number and length 0"
 abbrev pub length_in : Reply → ℕ

@@ -18,14 +18,10 @@ use Rattle.model.specs.Refusal.{refusal_number, number_in}
 use Rattle.reply.specs.Meaning.{Reply, RepliesBy, Replies, length_in, number_told, length_told}
 
 -- a step that does the same on this register, whatever number it is refused with
-pub replies_by_at : (y : Result ℕ ℕ) (m m' : Step Answer) (b b' a a' : Bytes) → m' (station b) ≡ m (station b) → RepliesBy y m b b' a a' → RepliesBy y m' b b' a a'
-replies_by_at (Ok n) m m' b b' a a' e w =
+pub replies_at : (y : Result ℕ ℕ) (m m' : Step Answer) (b b' a a' : Bytes) → m' (station b) ≡ m (station b) → RepliesBy y m b b' a a' → RepliesBy y m' b b' a a'
+replies_at (Ok n) m m' b b' a a' e w =
     record { value = w.value; does = record { step = e ∙ w.does.step; sound = w.does.sound }; size = w.size; bytes = w.bytes }
-replies_by_at (Err k) m m' b b' a a' e w = record { stops = e ∙ w.stops; register = w.register; answer = w.answer }
-
-pub replies_at : (y : Reply) (m m' : Step Answer) (b b' a a' : Bytes) → m' (station b) ≡ m (station b) → Replies y m b b' a a' → Replies y m' b b' a a'
-replies_at (Ok n) = replies_by_at (Ok n)
-replies_at (Err e) = replies_by_at (Err (refusal_number e))
+replies_at (Err k) m m' b b' a a' e w = record { stops = e ∙ w.stops; register = w.register; answer = w.answer }
 
 -- what a host is told, and what the slices hold then, is the definition's reply
 pub replies_by_give :

@@ -1,5 +1,5 @@
 -- A call on a register: 22 first, then what the code of the call says. For `step`.
-use Rattle.std.specs.Prelude.{◌≡◌, refl, false, T, length}
+use Rattle.std.specs.Prelude.{ℕ, ◌≡◌, refl, false, T, length, Result, Ok, Err}
 use Rattle.std.proofs.Common.{sym}
 use Rattle.octets.specs.Bytes.{Bytes}
 use Rattle.octets.specs.BoolLaws.{holds}
@@ -9,14 +9,19 @@ use Rattle.definition.specs.Perform.{perform}
 use Rattle.definition.specs.Sound.{sound}
 use Rattle.definition.specs.Lists.{step_of}
 use Rattle.definition.specs.Claim.{StepReturns}
-use Rattle.model.specs.Refusal.{number_in}
-use Rattle.reply.specs.Meaning.{Reply, Replies, length_in}
-use Rattle.reply.specs.ReplyLaws.{replies_give}
+use Rattle.model.specs.Refusal.{refusal_number, number_in}
+use Rattle.reply.specs.Meaning.{Reply, RepliesBy, Replies, length_in, number_told, length_told}
+use Rattle.reply.specs.ReplyLaws.{replies_by_give}
 
--- a sound register
-pub stepped : (y : Reply) (b call a a' b' : Bytes) → T (sound b) → Replies y (perform (parse_call call) (length a)) b b' a a' → StepReturns b call a (number_in y) (length_in y) a' b'
+-- a sound register, whatever number the call is refused with
+pub stepped_by :
+    (y : Result ℕ ℕ) (b call a a' b' : Bytes) → T (sound b) → RepliesBy y (perform (parse_call call) (length a)) b b' a a' → StepReturns b call a (number_told y) (length_told y) a' b'
 unfolding step_of
-stepped y b call a a' b' h w = rw (holds (sound b) h) (replies_give y (perform (parse_call call) (length a)) b b' a a' w)
+stepped_by y b call a a' b' h w = rw (holds (sound b) h) (replies_by_give y (perform (parse_call call) (length a)) b b' a a' w)
+
+pub stepped : (y : Reply) (b call a a' b' : Bytes) → T (sound b) → Replies y (perform (parse_call call) (length a)) b b' a a' → StepReturns b call a (number_in y) (length_in y) a' b'
+stepped (Ok n) = stepped_by (Ok n)
+stepped (Err e) = stepped_by (Err (refusal_number e))
 
 -- 22: "not sound"
 pub unsound : (b call a : Bytes) → sound b ≡ false → StepReturns b call a 22 0 a b

@@ -4,6 +4,7 @@ use Rattle.std.proofs.Common.{ℕ, ◌≡◌, Bool, false, ◌&&◌, ltb}
 use Rattle.definition.specs.Value.{CallValue, op_of}
 use Rattle.definition.specs.Perform.{asks_record}
 use Rattle.call.specs.Meaning.{meaning}
+use Rattle.reply.specs.Meaning.{numbered}
 use Rattle.operations.specs.Meaning.{HasRoom}
 use Rattle.operations.specs.RoomLaws.{lacks, suffices, no_room, has_room}
 use Rattle.operations.proofs.perform_call.Goals as goal
@@ -24,4 +25,4 @@ dispatch-requires c =
 pub returns : goal.returns
 returns c =
     let v = meaning c.args.call.now c.args.parsed in
-    has_room v _ c.dispatch.result _ _ _ _ (roomy v _ (c.asks_record.ensures _) c.if-asks_record-lacks.false) c.dispatch.ensures
+    has_room v _ (numbered c.dispatch.result) _ _ _ _ (roomy v _ (c.asks_record.ensures _) c.if-asks_record-lacks.false) c.dispatch.ensures

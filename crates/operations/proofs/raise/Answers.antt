@@ -1,4 +1,5 @@
 -- `raise`: the step, given what the search for the key found.
+use Rattle.reply.specs.Meaning.{numbered}
 use Rattle.operations.specs.SearchLaws.{raise_sought}
 use Rattle.operations.proofs.raise.Goals as goal
 
@@ -11,4 +12,4 @@ raise_at-requires c =
 
 pub returns : goal.returns
 returns c =
-    raise_sought c.raise_at.result _ _ _ _ _ _ c.key_of-key.ensures c.raise_at.ensures
+    raise_sought (numbered c.raise_at.result) _ _ _ _ _ _ c.key_of-key.ensures c.raise_at.ensures

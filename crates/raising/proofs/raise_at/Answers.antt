@@ -1,5 +1,6 @@
 -- `raise_at`: an alarm that was found is updated; else a new one is stored.
 use Rattle.register.specs.SearchLaws.{finds_first, finds_release}
+use Rattle.reply.specs.Meaning.{numbered}
 use Rattle.raising.specs.RaiseLaws.{raise_at_found, raise_at_none}
 use Rattle.raising.proofs.raise_at.Goals as goal
 
@@ -13,4 +14,4 @@ returns-in-Some c =
 
 pub returns-in-None : goal.returns-in-None
 returns-in-None c =
-    raise_at_none _ _ _ _ _ _ c.raise_new.result (finds_first c.requires.1 c.in-None.is) c.raise_new.ensures
+    raise_at_none _ _ _ _ _ _ (numbered c.raise_new.result) (finds_first c.requires.1 c.in-None.is) c.raise_new.ensures

@@ -4,6 +4,7 @@ use native.Mathlib.Omega.{arith}
 use Rattle.history.specs.StandingLaws.{standing_room}
 use Rattle.definition.proofs.Laws.Steps.SoundChains.{active_limit, active_length_lem}
 use Rattle.raise_fields.specs.Meaning.{raise_value}
+use Rattle.reply.specs.Meaning.{numbered}
 use Rattle.raising.specs.RaiseLaws.{limit_met, has_room}
 use Rattle.raising.proofs.raise_new.Goals as goal
 
@@ -24,5 +25,5 @@ insert-requires c =
 
 pub returns : goal.returns
 returns c =
-    has_room (raise_value c.args.call.now c.args.r) c.args.key.now c.args.register.now c.requires.standing.whole c.insert.result c.insert.new.register c.args.answer.now c.insert.new.answer
+    has_room (raise_value c.args.call.now c.args.r) c.args.key.now c.args.register.now c.requires.standing.whole (numbered c.insert.result) c.insert.new.register c.args.answer.now c.insert.new.answer
     (omega (arith, c.if-limit-held.false, c.limit-limit.ensures, c.held.ensures, active_limit c.args.register.now c.requires.standing.whole, active_length_lem c.args.register.now c.requires.standing.whole)) c.insert.ensures
