@@ -1,4 +1,5 @@
 -- What the fields of operations 3 to 6 and 13 mean: offsets and lengths become the bytes there.
+use Rattle.std.specs.Prelude.{◌≤◌}
 use Rattle.octets.specs.Bytes.{Bytes}
 use Rattle.definition.specs.Limits.{short_limit, region_limit, text_limit}
 use Rattle.definition.specs.Value.{PlainValue, ScopeValue, ActorValue, RequestValue, VerdictValue, PolicyValue}
@@ -62,3 +63,11 @@ pub record PolicyWithin (call : Bytes) (p : Policy) : Type 0 where
   pub actor : ActorWithin call p.actor
   pub request : RequestWithin call p.request
   pub verdict : verdict_within call p.verdict
+
+-- ---- "authorised (0 or 1)": a flag that was read is one of these
+
+abbrev pub plain_flag : Plain → Type 0
+plain_flag p = p.authorised ≤ 1
+
+abbrev pub verdict_flags : Verdict → Type 0
+verdict_flags v = (v.critical_allowed ≤ 1) × (v.authorised ≤ 1)

@@ -11,7 +11,7 @@ ghost use Rattle.std.specs.Prelude.{◌≡◌, IfOk, eqb};
 ghost use Rattle.definition.specs.Parse.{plain_fields, scope, actor, request, verdict, policy_from, policy_fields};
 ghost use Rattle.fields.specs.Reading.{Reads};
 ghost use Rattle.action_fields.specs.Meaning.{plain_value, scope_value, actor_value, request_value, verdict_value, policy_value};
-ghost use Rattle.action_fields.specs.Meaning.{plain_within, scope_within, ActorWithin, RequestWithin, verdict_within, PolicyWithin};
+ghost use Rattle.action_fields.specs.Meaning.{plain_flag, verdict_flags, plain_within, scope_within, ActorWithin, RequestWithin, verdict_within, PolicyWithin};
 
 use fields::{Reader, StringKind};
 use model::{Record, Refusal, Span};
@@ -76,7 +76,8 @@ pub struct Policy {
 // The fields of operations 3 and 4.
 #[tactic(auto, using(fields::specs::ReadingLaws::row_is), unfolding(definition::specs::Parse::plain_fields))]
 pub fn read_plain(reader: &mut Reader) -> Result<Plain, Refusal>
-    ensures { Reads reader.old reader.new plain_fields plain_value plain_within result }
+    ensures reads { Reads reader.old reader.new plain_fields plain_value plain_within result }
+    ensures flag { IfOk result plain_flag }
 {
     let time = reader.number(8)?;
     let id = reader.text(Record::SHORT)?;
@@ -136,7 +137,8 @@ fn read_request(reader: &mut Reader) -> Result<Request, Refusal>
 
 #[tactic(auto, using(fields::specs::ReadingLaws::row_is), unfolding(definition::specs::Parse::verdict))]
 fn read_verdict(reader: &mut Reader) -> Result<Verdict, Refusal>
-    ensures { Reads reader.old reader.new verdict verdict_value verdict_within result }
+    ensures reads { Reads reader.old reader.new verdict verdict_value verdict_within result }
+    ensures flags { IfOk result verdict_flags }
 {
     let critical_allowed = u8::from(reader.flag()?);
     let authorised = u8::from(reader.flag()?);
@@ -153,6 +155,7 @@ fn read_verdict(reader: &mut Reader) -> Result<Verdict, Refusal>
 pub fn read_policy_from(reader: &mut Reader, time: u64) -> Result<Policy, Refusal>
     ensures reads { Reads reader.old reader.new (policy_from time) policy_value PolicyWithin result }
     ensures time { IfOk result (λ p. p.actor.time ≡ time) }
+    ensures flags { IfOk result (λ p. verdict_flags p.verdict) }
 {
     let actor = read_actor(reader, time)?;
     let request = read_request(reader)?;
@@ -167,7 +170,8 @@ pub fn read_policy_from(reader: &mut Reader, time: u64) -> Result<Policy, Refusa
 // The fields of operations 5 and 6.
 #[tactic(auto, using(fields::specs::ReadingLaws::row_is), unfolding(definition::specs::Parse::policy_fields))]
 pub fn read_policy(reader: &mut Reader) -> Result<Policy, Refusal>
-    ensures { Reads reader.old reader.new policy_fields policy_value PolicyWithin result }
+    ensures reads { Reads reader.old reader.new policy_fields policy_value PolicyWithin result }
+    ensures flags { IfOk result (λ p. verdict_flags p.verdict) }
 {
     let time = reader.number(8)?;
     read_policy_from(reader, time)

@@ -8,7 +8,7 @@ use Rattle.model.specs.Meaning.{opt_part, opt_within, action_of, deed_of}
 use Rattle.model.specs.declared.Deed.TheVariants.{Until}
 use Rattle.model.specs.declared.refusal.Refusal.{Refusal}
 use Rattle.model.specs.Refusal.{refusal_number}
-use Rattle.action_fields.specs.Meaning.{plain_value, policy_value, plain_within, PolicyWithin}
+use Rattle.action_fields.specs.Meaning.{plain_value, policy_value, plain_within, PolicyWithin, plain_flag, verdict_flags}
 use Rattle.raise_fields.specs.Meaning.{raise_value, clear_value, RaiseWithin, ClearWithin}
 use Rattle.call.specs.declared.Parsed.{Parsed}
 use Rattle.call.specs.declared.Parsed.TheVariants as P
@@ -61,6 +61,13 @@ parsed_within call (P.Lift t) = Unit
 abbrev pub outcome_within : Bytes → Result Parsed Refusal → Type 0
 outcome_within call (Ok p) = parsed_within call p
 outcome_within call (Err e) = Unit
+
+-- ---- a flag that was read is 0 or 1
+
+abbrev pub parsed_flags : Parsed → Type 0
+parsed_flags (P.Plain x p) = plain_flag p
+parsed_flags (P.Policy d p) = verdict_flags p.verdict
+parsed_flags _ = Unit
 
 -- ---- the words of contracts
 

@@ -8,10 +8,10 @@
 // `parsed_within`, an arm of `read_operation`, and a law in proofs/EachOperation.antt.
 #![tactic(auto)]
 
-ghost use Rattle.std.specs.Prelude.{◌≡◌};
+ghost use Rattle.std.specs.Prelude.{◌≡◌, IfOk};
 ghost use Rattle.definition.specs.Parse.{severity_or_all, until_fields, fields_of, parse_call};
 ghost use Rattle.fields.specs.Reading.{Reads, itself, anywhere};
-ghost use Rattle.call.specs.Meaning.{said, parsed_within, later, Means};
+ghost use Rattle.call.specs.Meaning.{said, parsed_within, parsed_flags, later, Means};
 
 use action_fields::{Plain, Policy, read_plain, read_policy, read_policy_from};
 use fields::{Reader, StringKind};
@@ -53,7 +53,8 @@ fn read_severity_or_all(reader: &mut Reader) -> Result<u8, Refusal>
 // A suppression until its end: the call's time, the end, and the fields that operation 6 has behind its time.
 #[tactic(auto, using(fields::specs::ReadingLaws::row_is), unfolding(definition::specs::Parse::until_fields))]
 fn read_until(reader: &mut Reader) -> Result<Parsed, Refusal>
-    ensures { Reads reader.old reader.new until_fields said parsed_within result }
+    ensures reads { Reads reader.old reader.new until_fields said parsed_within result }
+    ensures flags { IfOk result parsed_flags }
 {
     let time = reader.number(8)?;
     let end = reader.number(8)?;
@@ -64,7 +65,8 @@ fn read_until(reader: &mut Reader) -> Result<Parsed, Refusal>
 // The fields of an operation.
 #[tactic(auto, using(crate::proofs::EachOperation::operations), unfolding(definition::specs::Parse::history_fields, definition::specs::Reader::into))]
 fn read_operation(reader: &mut Reader, operation: u8) -> Result<Parsed, Refusal>
-    ensures { Reads reader.old reader.new (fields_of operation) said parsed_within result }
+    ensures reads { Reads reader.old reader.new (fields_of operation) said parsed_within result }
+    ensures flags { IfOk result parsed_flags }
 {
     let parsed = match operation {
         1 => Parsed::Raise(read_raise(reader)?),
@@ -102,7 +104,8 @@ fn ends_later(parsed: Parsed) -> bool
 // What a call says. An end that is not later is refused last: a fault of a field and bytes left over come before it.
 #[tactic(auto, using(crate::proofs::Whole::whole))]
 pub fn parse(call: &[u8]) -> Result<Parsed, Refusal>
-    ensures { Means call.now result (parse_call call.now) }
+    ensures means { Means call.now result (parse_call call.now) }
+    ensures flags { IfOk result parsed_flags }
 {
     let Some(operation) = call.first() else {
         return Err(Refusal::Operation);

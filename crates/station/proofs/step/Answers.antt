@@ -16,11 +16,11 @@ pub perform-requires : goal.perform-requires
 perform-requires c =
     record {
       standing = c.in-Some.ensures;
-      within = c.parse.ensures.1;
-      legal = subst (λ (v : CallValue). LegalCall v) (sym c.parse.ensures.0) (call_legal c.args.call.now (λ i. omega (arith, c.shared_slice_known-1.given i)));
+      within = c.parse.ensures.means.1;
+      legal = subst (λ (v : CallValue). LegalCall v) (sym c.parse.ensures.means.0) (call_legal c.args.call.now (λ i. omega (arith, c.shared_slice_known-1.given i)));
     }
 
 pub returns : goal.returns
 returns c =
     stepped c.perform.result c.args.register.now c.args.call.now c.args.answer.now c.perform.new.answer c.perform.new.register c.in-Some.ensures.whole
-    (subst (λ (v : CallValue). Replies c.perform.result (perform v (length c.args.answer.now)) c.args.register.now c.perform.new.register c.args.answer.now c.perform.new.answer) c.parse.ensures.0 c.perform.ensures)
+    (subst (λ (v : CallValue). Replies c.perform.result (perform v (length c.args.answer.now)) c.args.register.now c.perform.new.register c.args.answer.now c.perform.new.answer) c.parse.ensures.means.0 c.perform.ensures)
