@@ -5,7 +5,7 @@
 // (Parse.antt), and every span lies in the call, within its limit: operations look at their bytes and test nothing.
 //
 // The fields of each operation are read by the crate of its fields. A new operation is a variant of `Parsed`, with its lines in `meaning` and
-// `parsed_within`, an arm of `read_operation`, and a law in proofs/EachOperation.antt.
+// `parsed_within`, and in `parsed_flags` where it has flags, an arm of `read_operation`, and a law in proofs/EachOperation.antt.
 #![tactic(auto)]
 
 ghost use Rattle.std.specs.Prelude.{◌≡◌, IfOk};
